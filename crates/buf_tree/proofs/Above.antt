@@ -4,7 +4,7 @@ use Rattle.std.specs.Prelude.{option_map}
 use Rattle.std.specs.FinMap.{get}
 use Rattle.std.proofs.lemmas.Bool.{false≢true}
 use Rattle.gcx_model.specs.Members.{In}
-use Rattle.node_store.specs.Rows.{Entry, parent_of}
+use Rattle.node_store.specs.Rows.{StoreRow, parent_of}
 use Rattle.buf_tree.specs.Row.{Row}
 use Rattle.buf_tree.specs.Shape.{Store, Cell, cells, Shaped}
 use Rattle.buf_tree.specs.Walk.{Nested, Inside, Within}
@@ -24,7 +24,7 @@ module _ (m : Store) (s : Shaped m) (nest : Nested (cells m)) (test : Row → Bo
       let k = parent_row m (cells m) s h i q (sym e) in
       (k.0, k.1, k.3, child_inside (cells m) s.rising nest s.up k.0 h k.1 i k.2, λ b j n w. parent_within (cells m) s.rising nest s.up b k.0 h j k.1 i n k.2)
 
-  module _ (p : ℕ) (u : Ascent (cells m) test h (Some p)) (r : Row) (paid : option_map (λ (e : Entry Row). e.payload) (get m p) ≡ Some r) where
+  module _ (p : ℕ) (u : Ascent (cells m) test h (Some p)) (r : Row) (paid : option_map (λ (e : StoreRow Row). e.payload) (get m p) ≡ Some r) where
     is_row : u.0.row ≡ r
     is_row = cell_row m s u.0 u.1 p u.2 r paid
 

@@ -8,7 +8,7 @@ use Rattle.std.proofs.lemmas.Bool.{false≢true}
 use Rattle.gcx_base.specs.declared.steps.Step.{Step}
 use Rattle.gcx_model.specs.declared.item.Off.{Off}
 use Rattle.gcx_model.specs.ItemView.{off_tree}
-use Rattle.gcx_model.specs.Core.{RoleKind, Own, First, Whole, OffTree}
+use Rattle.gcx_model.specs.Core.{RoleTarget, Own, First, Whole, OffTree}
 use Rattle.gcx_model.specs.Tree.{Node, Root, Under, serial_of}
 use Rattle.gcx_model.specs.Placed.{offs_in, is_own, is_own_kind, is_empty}
 use Rattle.gcx_model.specs.Run.{Offed}
@@ -57,7 +57,7 @@ use Rattle.buf_tree.proofs.Taking.{bare, bare_alike, was_bare}
 whole_reaches : (o : OffTree) → is_whole_kind o.kind ≡ true → is_own o ≡ false
 whole_reaches o h = go o.kind o.rel h
   where
-    go : (k : RoleKind) (rel : List Step) → is_whole_kind k ≡ true → (is_own_kind k && is_empty rel) ≡ false
+    go : (k : RoleTarget) (rel : List Step) → is_whole_kind k ≡ true → (is_own_kind k && is_empty rel) ≡ false
     go Own rel e = absurd (false≢true e)
     go First rel e = absurd (false≢true e)
     go Whole rel e = refl

@@ -9,7 +9,7 @@ use Rattle.std.proofs.lemmas.Bool.{true≢false, false≢true, ne_eqb}
 use Rattle.gcx_base.specs.declared.kind.Kind.{Kind}
 use Rattle.gcx_model.specs.Past.{IsNode, token_for}
 use Rattle.tree_laws.proofs.Lists.{In}
-use Rattle.node_store.specs.Rows.{Entry, appended}
+use Rattle.node_store.specs.Rows.{StoreRow, appended}
 use Rattle.buf_tree.specs.declared.ahead.Ahead.{Ahead}
 use Rattle.buf_tree.specs.PassedCalls.{OpenedWith, MayOpenWith, MayOpenKept, StandsWith, row_with}
 use Rattle.buf_tree.specs.Row.{Row}
@@ -84,7 +84,7 @@ module _ (s : Option SpreadView) (m0 : Store) (g0 : List ℕ) (waiting : List Ah
   at_q : at_place q was.rows ≡ Some inner.cell
   at_q = ap (λ k. at_place k was.rows) (sym inner.place) ∙ at_place_is was.rows (seen_apart s (cells m0) up kept.shape.apart) inner.cell inner.among
 
-  module _ (above : Row) (paid : option_map (λ (e : Entry Row). e.payload) (get m0 q) ≡ Some above) where
+  module _ (above : Row) (paid : option_map (λ (e : StoreRow Row). e.payload) (get m0 q) ≡ Some above) where
     row_here : here.0.row ≡ above
     row_here = row_at m0 (cells m0) q kept.shape refl here.0 here.1 place_here above paid
 
@@ -192,7 +192,7 @@ module _ (s : Option SpreadView) (m0 : Store) (g0 : List ℕ) (waiting : List Ah
           (views.stands_bare s (cells m0) g0 waiting nodes taken0 most0 loans0 kept.shape.rising kept.shape.up kept.shape.apart q inner kind node roles g1 taken1 ahead loans0 bare_was)
 
     -- or its row is there, with what is kept of its roles
-    module _ (stays : bare ≡ false) (above : Row) (paid : option_map (λ (e : Entry Row). e.payload) (get m0 q) ≡ Some above) (row : Row) (covered : Bool)
+    module _ (stays : bare ≡ false) (above : Row) (paid : option_map (λ (e : StoreRow Row). e.payload) (get m0 q) ≡ Some above) (row : Row) (covered : Bool)
         (row_is : row ≡ covered_by covered (below_row above.serial above.level nodes kind R)) (law : (covered ≡ true) ↔ KeepsSpread s above) (p : ℕ) (free : get m0 p ≡ None) (m1 : Store) (now : m1 ≡ appended m0 q p row)
         (g1 : List ℕ) (cap : ℕ) (gone : g1 ≡ g0) (room : length g0 + (held + 1) ≤ cap) where
       not_bare : is_bare kind roles ≡ false

@@ -7,23 +7,23 @@ use Rattle.std.specs.FinMap.{get, insert, remove, get-insert, get-remove}
 use Rattle.std.proofs.lemmas.Bool.{and_parts, and_from, true≢false, false≢true, eqb-true, eq-eqb, ne_eqb, false_from_ne_true}
 use Rattle.base_laws.proofs.Members.{filter_all, in_map, from_map}
 use Rattle.tree_laws.proofs.Lists.{In, In-filter, In-kept}
-use Rattle.node_store.specs.Rows.{Entry, without_child, changed, changed_at, parent_of, left_by, unlinked, paid_by}
+use Rattle.node_store.specs.Rows.{StoreRow, without_child, changed, changed_at, parent_of, left_by, unlinked, paid_by}
 use Rattle.buf_tree.specs.Row.{Row}
 use Rattle.buf_tree.specs.Shape.{Store, Cell, num, CellsRise, at_place, at_serial, place_for, is_under, entry_in, Above, Shape, with_at, without}
 use Rattle.buf_tree.proofs.Shaping.{at_place_in, at_serial_is, held_in, get_of}
 
 -- ---- reading a changed map
 
-pub get_put : (m : Store) (k : ℕ) (v : Entry Row) (r : ℕ) → get (insert m k v) r ≡ cond (r == k) (Some v) (get m r)
+pub get_put : (m : Store) (k : ℕ) (v : StoreRow Row) (r : ℕ) → get (insert m k v) r ≡ cond (r == k) (Some v) (get m r)
 get_put m k v r = get-insert nat_cmp_total m k v r ∙ ap (λ b. cond b (Some v) (get m r)) (unsigned_tied r k)
 
 get_out : (m : Store) (k r : ℕ) → get (remove m k) r ≡ cond (r == k) None (get m r)
 get_out m k r = get-remove nat_cmp_total m k r ∙ ap (λ b. cond b None (get m r)) (unsigned_tied r k)
 
-pub get_changed : (f : Entry Row → Entry Row) (q : ℕ) (m : Store) (r : ℕ) → get (changed_at f q m) r ≡ cond (r == q) (option_map f (get m r)) (get m r)
+pub get_changed : (f : StoreRow Row → StoreRow Row) (q : ℕ) (m : Store) (r : ℕ) → get (changed_at f q m) r ≡ cond (r == q) (option_map f (get m r)) (get m r)
 get_changed f q m r = go (get m q) refl (r == q) refl
   where
-    go : (o : Option (Entry Row)) → get m q ≡ o → (b : Bool) → (r == q) ≡ b → get (changed f q m o) r ≡ cond b (option_map f (get m r)) (get m r)
+    go : (o : Option (StoreRow Row)) → get m q ≡ o → (b : Bool) → (r == q) ≡ b → get (changed f q m o) r ≡ cond b (option_map f (get m r)) (get m r)
     go None e false g = refl
     go None e true g = let is : get m r ≡ None = ap (get m) (eqb-true r q g) ∙ e in rw is refl
     go (Some d) e b g = get_put m q (f d) r ∙ (rw g (last b g))
@@ -215,7 +215,7 @@ module _ (m : Store) (xs : List Cell) (s : Shape m xs) (c0 : Cell) (i0 : In c0 x
   get_left r = ap (λ o. get (left_by (remove m c0.place) c0.place o) r) par ∙ go (place_for xs c0.row) refl (get m r) refl (r == c0.place) refl
     where
       par : parent_of m c0.place ≡ place_for xs c0.row
-      par = ap (option_and_then (λ (e : Entry Row). e.parent)) (get_of m xs s c0 i0)
+      par = ap (option_and_then (λ (e : StoreRow Row). e.parent)) (get_of m xs s c0 i0)
 
       -- the parent's place is known of the leaf's
       parent_at : (c : Cell) → In c xs → is_under (num c) c0 ≡ true → place_for xs c0.row ≡ Some c.place
@@ -227,13 +227,13 @@ module _ (m : Store) (xs : List Cell) (s : Shape m xs) (c0 : Cell) (i0 : In c0 x
           go2 false h = refl
           go2 true h = absurd (false≢true h)
 
-      unchanged : (o : Option ℕ) → place_for xs c0.row ≡ o → (g : Option (Entry Row)) → get m r ≡ g → (o ≡ Some r → ⊥) → option_map (without_child c0.place) g ≡ g
+      unchanged : (o : Option ℕ) → place_for xs c0.row ≡ o → (g : Option (StoreRow Row)) → get m r ≡ g → (o ≡ Some r → ⊥) → option_map (without_child c0.place) g ≡ g
       unchanged o e None h n = refl
       unchanged o e (Some d) h n =
           let k = held_in m xs s r d h in
           ap (λ z. Some z) (ap (without_child c0.place) k.3 ∙ same_children k.0 (false_from_ne_true _ (λ u. n (sym e ∙ parent_at k.0 k.1 u ∙ ap (λ z. Some z) k.2))) ∙ sym k.3)
 
-      go : (o : Option ℕ) → place_for xs c0.row ≡ o → (g : Option (Entry Row)) → get m r ≡ g → (b : Bool) → (r == c0.place) ≡ b → get (left_by (remove m c0.place) c0.place o) r ≡ cond b None (option_map (without_child c0.place) (get m r))
+      go : (o : Option ℕ) → place_for xs c0.row ≡ o → (g : Option (StoreRow Row)) → get m r ≡ g → (b : Bool) → (r == c0.place) ≡ b → get (left_by (remove m c0.place) c0.place o) r ≡ cond b None (option_map (without_child c0.place) (get m r))
       go None e g h b f = get_out m c0.place r ∙ rw f (last b)
         where
           last : (b : Bool) → cond b None (get m r) ≡ cond b None (option_map (without_child c0.place) (get m r))

@@ -15,7 +15,7 @@ use Rattle.base_laws.proofs.Bools.{same_bools}
 use Rattle.tree_laws.proofs.Lists.{In, any_in, any_from}
 use Rattle.tree_laws.proofs.Chains.{above_self, above_trans}
 use Rattle.tree_laws.proofs.Freeze.{hits_within}
-use Rattle.node_store.specs.Rows.{Entry, parent_of}
+use Rattle.node_store.specs.Rows.{StoreRow, parent_of}
 use Rattle.buf_tree.specs.Row.{Row}
 use Rattle.buf_tree.specs.Shape.{Store, Cell, num, cells, CellsRise, Shaped}
 use Rattle.buf_tree.specs.Walk.{low_at}
@@ -79,7 +79,7 @@ module _ (m : Store) (s : Shaped m) where
   one_place p q n u v = sym u.place ∙ ap (λ (c : Cell). c.place) (one_row xs s.rising u.cell v.cell n u.among v.among u.tells v.tells) ∙ v.place
 
   -- the parent's row is that of the parent
-  pub parent_node : (p q : ℕ) (h : Node) → NodeOf xs p h → parent_of m p ≡ Some q → (r : Row) → option_map (λ (e : Entry Row). e.payload) (get m p) ≡ Some r
+  pub parent_node : (p q : ℕ) (h : Node) → NodeOf xs p h → parent_of m p ≡ Some q → (r : Row) → option_map (λ (e : StoreRow Row). e.payload) (get m p) ≡ Some r
       → (g : Node) × (h ≡ Under g (serial_of h) r.kind) × NodeOf xs q g
   parent_node p q Root u e r f =
       let k = parent_row m xs s u.cell u.among q (ap (parent_of m) u.place ∙ e) in
@@ -162,7 +162,7 @@ module _ (m : Store) (s : Shaped m) (a n : Node) (steps : List Step) where
       l.4.each 0 (omega arith) ∙ ap (λ (x : Node). leads (is_same n) (serial_of x) steps n) same ∙ leads_same (serial_of a) steps n d
 
   pub leading_on : (p from : ℕ) (flags new : List Bool) → NodeOf (cells m) from a → Descends n → (p == from) ≡ false → Leading (cells m) a n steps (Some p) flags
-      → (o : Option ℕ) → o ≡ parent_of m p → (r : Row) → option_map (λ (e : Entry Row). e.payload) (get m p) ≡ Some r → Raised steps r.kind false flags new → Leading (cells m) a n steps o new
+      → (o : Option ℕ) → o ≡ parent_of m p → (r : Row) → option_map (λ (e : StoreRow Row). e.payload) (get m p) ≡ Some r → Raised steps r.kind false flags new → Leading (cells m) a n steps o new
   leading_on p from flags new u d f l None e r h raise =
       let root : l.0 ≡ Root = no_parent_node m s p l.0 l.1 (sym e) in
       λ j.

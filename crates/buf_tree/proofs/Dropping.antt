@@ -6,7 +6,7 @@ use Rattle.std.proofs.lemmas.List.{append-nil}
 use Rattle.std.proofs.lemmas.Bool.{and_parts, false≢true, eqb-true, eq-eqb, cases_Bool, cases_lt}
 use Rattle.tree_laws.proofs.Lists.{In, In-append, In-filter, In-kept, any_in}
 use Rattle.node_store.specs.declared.store.Place.{Place}
-use Rattle.node_store.specs.Rows.{Entry, unlinked}
+use Rattle.node_store.specs.Rows.{StoreRow, unlinked}
 use Rattle.buf_tree.specs.Row.{Row}
 use Rattle.buf_tree.specs.Rows.{IsSpare}
 use Rattle.buf_tree.specs.Shape.{Store, Cell, num, cells, is_under, entry_in, Shape, Shaped}
@@ -91,7 +91,7 @@ module _ (m0 : Store) (s0 : Shaped m0) (nest0 : Nested (cells m0)) (c : Cell) (g
       d_parent : num c ≤ d.row.parent
       d_parent = inner.block d (back d j) inner.behind (omega arith)
 
-      stays : (e : Entry Row) → get m p ≡ Some e → (IsSpare e → ⊥) → Dropping m0 m c (num d) g0 g
+      stays : (e : StoreRow Row) → get m p ≡ Some e → (IsSpare e → ⊥) → Dropping m0 m c (num d) g0 g
       stays e is not_ = record {
         left = w.left;
         shape = w.shape;
@@ -107,7 +107,7 @@ module _ (m0 : Store) (s0 : Shaped m0) (nest0 : Nested (cells m0)) (c : Cell) (g
         ];
       }
 
-      goes : (e : Entry Row) → get m p ≡ Some e → IsSpare e → Dropping m0 (unlinked m p) c (num d) g0 (g ++ e.payload.serial ∷ [])
+      goes : (e : StoreRow Row) → get m p ≡ Some e → IsSpare e → Dropping m0 (unlinked m p) c (num d) g0 (g ++ e.payload.serial ∷ [])
       goes e is spare = record {
         left = w.left ++ e.payload.serial ∷ [];
         shape = subst (λ (zs : List Cell). Shape (unlinked m p) zs) (sym (cells_less m w.shape p e is spare)) (shape_less m (cells m) w.shape p e is spare);
@@ -134,7 +134,7 @@ module _ (m0 : Store) (s0 : Shaped m0) (nest0 : Nested (cells m0)) (c : Cell) (g
           row_is = w.shape.apart row.0 d row.1 j (row.2 ∙ sym at)
 
           serial : e.payload.serial ≡ num d
-          serial = ap (λ (x : Entry Row). x.payload.serial) row.3 ∙ ap num row_is
+          serial = ap (λ (x : StoreRow Row). x.payload.serial) row.3 ∙ ap num row_is
 
           above : (x : Cell) → In x (cells m) → (num d ≤ num x) ⊎ (num x < num c) → is_under (num x) row.0 ≡ true → ⊥
           above x v b u =
@@ -147,12 +147,12 @@ module _ (m0 : Store) (s0 : Shaped m0) (nest0 : Nested (cells m0)) (c : Cell) (g
                 | inr l ↦ omega arith
               ]
 
-      shed : (e : Entry Row) → get m p ≡ Some e → (m' : Store) (g' : List ℕ) (len0 len : ℕ) → Shed e m m' p g g' len0 len → Dropping m0 m' c (num d) g0 g'
+      shed : (e : StoreRow Row) → get m p ≡ Some e → (m' : Store) (g' : List ℕ) (len0 len : ℕ) → Shed e m m' p g g' len0 len → Dropping m0 m' c (num d) g0 g'
       shed e is m' g' len0 len (inl s) = subst (λ (z : Store). Dropping m0 z c (num d) g0 g') (sym s.1) (subst (λ (z : List ℕ). Dropping m0 (unlinked m p) c (num d) g0 z) (sym s.2) (goes e is s.0))
       shed e is m' g' len0 len (inr s) = subst (λ (z : Store). Dropping m0 z c (num d) g0 g') (sym s.1) (subst (λ (z : List ℕ). Dropping m0 m c (num d) g0 z) (sym s.2) (stays e is s.0))
 
 -- a row went, or none
-shed_count : (e : Entry Row) (m m' : Store) (p : ℕ) (g g' : List ℕ) (len0 len : ℕ) → Shaped m → get m p ≡ Some e → Shed e m m' p g g' len0 len → len + length (cells m') ≡ len0 + length (cells m)
+shed_count : (e : StoreRow Row) (m m' : Store) (p : ℕ) (g g' : List ℕ) (len0 len : ℕ) → Shaped m → get m p ≡ Some e → Shed e m m' p g g' len0 len → len + length (cells m') ≡ len0 + length (cells m)
 shed_count e m m' p g g' len0 len s is (inl h) = let a = length_less m s p e is h.0 in let b = ap (λ (z : Store). length (cells z)) h.1 in let c = h.3 in omega arith
 shed_count e m m' p g g' len0 len s is (inr h) = let b = ap (λ (z : Store). length (cells z)) h.1 in let c = h.3 in omega arith
 
@@ -212,8 +212,8 @@ module _ (m0 : Store) (s0 : Shaped m0) (nest0 : Nested (cells m0)) (place : ℕ)
       block x i l b = let a = s.walk.4 in s.block x i l (omega arith)
 
       -- it may go, and the row before it is next
-      module _ (m2 : Store) (g2 : List ℕ) (len0 len : ℕ) (sheds : (e : Entry Row) → get m p ≡ Some e → Shed e m m2 p g g2 len0 len) where
-        entry : (e : Entry Row) × (get m p ≡ Some e)
+      module _ (m2 : Store) (g2 : List ℕ) (len0 len : ℕ) (sheds : (e : StoreRow Row) → get m p ≡ Some e → Shed e m m2 p g g2 len0 len) where
+        entry : (e : StoreRow Row) × (get m p ≡ Some e)
         entry = some_entry (get m p) (drops_used p s)
 
         after : Dropping m0 m2 s.base (num h) g0 g2

@@ -14,7 +14,7 @@ use Rattle.gcx_model.specs.Tree.{Node}
 use Rattle.gcx_model.specs.Held.{held}
 use Rattle.gcx_model.specs.Past.{Past}
 use Rattle.tree_laws.proofs.Lists.{In}
-use Rattle.node_store.specs.Rows.{Entry, IsTree, parent_of}
+use Rattle.node_store.specs.Rows.{StoreRow, IsTree, parent_of}
 use Rattle.role_set.proofs.Counting.{Once, len_once}
 use Rattle.spread_laws.specs.Tops.{roles_kept, entries_of, is_kept_at}
 use Rattle.buf_tree.specs.Row.{Row}
@@ -193,7 +193,7 @@ module _ (m : Store) (root : Option ℕ) (t : IsTree m root) (s : Shaped m) wher
   pub first_num : (p : ℕ) → root ≡ Some p → (c : Cell) → In c (cells m) → c.place ≡ p → num c ≡ 0
   first_num p e c i at =
       let h = t.top p e in
-      no_parent m (cells m) s c i (ap (parent_of m) at ∙ ap (option_and_then (λ (x : Entry Row). x.parent)) h.1 ∙ h.2)
+      no_parent m (cells m) s c i (ap (parent_of m) at ∙ ap (option_and_then (λ (x : StoreRow Row). x.parent)) h.1 ∙ h.2)
 
   pub no_rows : root ≡ None → cells m ≡ []
   no_rows e = go (cells m) (sym e ∙ root_is m root t (cells m) s refl)

@@ -4,7 +4,7 @@ use Rattle.std.specs.List.{filter}
 use Rattle.std.proofs.lemmas.List.{append-nil}
 use Rattle.std.proofs.lemmas.Bool.{or_left, false≢true, eqb-true, eq-eqb, ne_eqb, cases_eq, false_from_ne_true}
 use Rattle.gcx_base.specs.declared.kind.Kind.{Kind}
-use Rattle.gcx_model.specs.Tree.{Tree, Token, Start, Chars, End, Node, Root, Under, serial_of, within, is_open_at, grow, grow_at}
+use Rattle.gcx_model.specs.Tree.{Tree, TreeToken, Start, Chars, End, Node, Root, Under, serial_of, within, is_open_at, grow, grow_at}
 use Rattle.gcx_model.specs.Growth.{may_come, level}
 use Rattle.gcx_model.specs.Held.{is_held, held}
 use Rattle.gcx_model.specs.Past.{Past, IsPast, past_fed}
@@ -41,7 +41,7 @@ at_held past is a e =
     In-kept (is_held past.plan past.tree past.acts) a past.tree.nodes ((is_grown past is).at_in a e)
     (or_left _ _ (subst (λ o. is_open_at o (serial_of a) ≡ true) (sym e) (within_self (serial_of a) a (eq-eqb _ _ refl))))
 
-module _ (t : Token) (past : Past) (is : IsPast past) where
+module _ (t : TreeToken) (past : Past) (is : IsPast past) where
   abbrev later : List Node
   later = held past.plan past.tree past.acts ++ added t past.tree
 
@@ -62,7 +62,7 @@ module _ (t : Token) (past : Past) (is : IsPast past) where
     | inr j ↦ In-right n past.tree.nodes (added t past.tree) j
   ])
 
-  new_parent : (at : Option Node) (t : Token) (n : Node) (s : ℕ) (k : Kind) → In (Under n s k) (added_at at t past.tree) → at ≡ Some n
+  new_parent : (at : Option Node) (t : TreeToken) (n : Node) (s : ℕ) (k : Kind) → In (Under n s k) (added_at at t past.tree) → at ≡ Some n
   new_parent None t n s k i = absurd i
   new_parent (Some a) (Start name) n s k (inl e) = let f : a ≡ n = cc in ap (λ z. Some z) f
   new_parent (Some a) (Start name) n s k (inr i) = absurd i
@@ -93,7 +93,7 @@ top_is v past q h i =
         let same = ap (λ (s : Seen). s.serial) c.2 in
         (a, refl, omega arith)
 
-module _ (t : Token) (past : Past) (is : IsPast past) where
+module _ (t : TreeToken) (past : Past) (is : IsPast past) where
   later_all : (n : Node) → In n (grow t past.tree).nodes → is_held past.plan (grow t past.tree) past.acts n ≡ true → In n (later t past is)
   later_all n i h =
       let j : In n (held past.plan (grow t past.tree) past.acts) = In-kept (is_held past.plan (grow t past.tree) past.acts) n (grow t past.tree).nodes i h in

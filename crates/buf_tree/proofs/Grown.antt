@@ -8,7 +8,7 @@ use Rattle.std.proofs.lemmas.List.{append-nil, map-append}
 use Rattle.std.proofs.lemmas.List.Elements.{filter-append}
 use Rattle.std.proofs.lemmas.Bool.{and_parts, true≢false, false≢true, eqb-true, eq-eqb, ne_eqb, cases_eq, false_from_ne_true}
 use Rattle.tree_laws.proofs.Lists.{In, In-left, In-append, filter_none}
-use Rattle.node_store.specs.Rows.{Entry, leaf, with_child, planted, appended}
+use Rattle.node_store.specs.Rows.{StoreRow, leaf, with_child, planted, appended}
 use Rattle.buf_tree.specs.Row.{Row}
 use Rattle.buf_tree.specs.Shape.{Store, Cell, num, CellsRise, at_place, at_serial, place_for, is_under, entry_in, Shape}
 use Rattle.buf_tree.proofs.Shaping.{at_place_in, at_place_is, at_serial_is}
@@ -185,7 +185,7 @@ module _ (m : Store) (xs : List Cell) (s : Shape m xs) (c0 : Cell) (i0 : In c0 x
 -- the first row
 pub shape_planted : (p : ℕ) (row : Row) → row.serial ≡ 0 → Shape (planted empty p row) (record { place = p; row = row } ∷ [])
 shape_planted p row z = record {
-  gets = λ r. get_put empty p (leaf None row) r ∙ rw (get-empty {X = Entry Row} nat_cmp r) (each r (r == p) refl);
+  gets = λ r. get_put empty p (leaf None row) r ∙ rw (get-empty {X = StoreRow Row} nat_cmp r) (each r (r == p) refl);
   rising = (λ y i. absurd i, tt);
   apart = λ a b i j e. elim i [ inl f ↦ elim j [ inl g ↦ sym f ∙ g | inr k ↦ absurd k ] | inr k ↦ absurd k ];
   up = λ c i. elim i [ inl f ↦ inl (ap num (sym f) ∙ z) | inr k ↦ absurd k ];

@@ -14,7 +14,7 @@ use Rattle.gcx_model.specs.Tree.{Node, Root, Under, serial_of, above}
 use Rattle.gcx_model.specs.Paths.{any, hits}
 use Rattle.tree_laws.proofs.Lists.{In}
 use Rattle.tree_laws.proofs.Chains.{above_self, above_trans}
-use Rattle.node_store.specs.Rows.{Entry, parent_of}
+use Rattle.node_store.specs.Rows.{StoreRow, parent_of}
 use Rattle.buf_tree.specs.Row.{Row}
 use Rattle.buf_tree.specs.Shape.{Store, Cell, cells, Shaped}
 use Rattle.buf_tree.specs.Tops.{HitFromAbove, IsNewTop}
@@ -108,7 +108,7 @@ module _ (m : Store) (s : Shaped m) (top : Off) (p : Node) (k : ℕ) (kind : Kin
   here : (q : ℕ) (flags : List Bool) (l : Hitting (cells m) top p new (Some q) flags) → get_or flags 0 false ≡ hits (serial_of l.0) top.rel new
   here q flags l = l.4.each 0 (omega arith) ∙ leads_same (serial_of l.0) top.rel new d
 
-  pub hitting_found : (q : ℕ) (flags : List Bool) → Hitting (cells m) top p new (Some q) flags → (r : Row) → option_map (λ (e : Entry Row). e.payload) (get m q) ≡ Some r → get_or flags 0 false ≡ true → is_waiting r top ≡ true → HitFromAbove (cells m) top p new
+  pub hitting_found : (q : ℕ) (flags : List Bool) → Hitting (cells m) top p new (Some q) flags → (r : Row) → option_map (λ (e : StoreRow Row). e.payload) (get m q) ≡ Some r → get_or flags 0 false ≡ true → is_waiting r top ≡ true → HitFromAbove (cells m) top p new
   hitting_found q flags l r h f waits = record {
     place = q;
     base = l.0;
@@ -119,14 +119,14 @@ module _ (m : Store) (s : Shaped m) (top : Off) (p : Node) (k : ℕ) (kind : Kin
   }
 
   -- where the row's node is no such base
-  apart : (q : ℕ) (flags : List Bool) (l : Hitting (cells m) top p new (Some q) flags) (r : Row) → option_map (λ (e : Entry Row). e.payload) (get m q) ≡ Some r → (get_or flags 0 false && is_waiting r top) ≡ false → (u : HitFromAbove (cells m) top p new) → l.0 ≡ u.base → ⊥
+  apart : (q : ℕ) (flags : List Bool) (l : Hitting (cells m) top p new (Some q) flags) (r : Row) → option_map (λ (e : StoreRow Row). e.payload) (get m q) ≡ Some r → (get_or flags 0 false && is_waiting r top) ≡ false → (u : HitFromAbove (cells m) top p new) → l.0 ≡ u.base → ⊥
   apart q flags l r h off_ u e =
       let same : u.at.cell ≡ l.1.cell = one_row (cells m) s.rising u.at.cell l.1.cell l.0 u.at.among l.1.among (subst (λ (x : Node). Tells (cells m) u.at.cell x) (sym e) u.at.tells) l.1.tells in
       let row : u.at.cell.row ≡ r = ap (λ (c : Cell). c.row) same ∙ cell_row m s l.1.cell l.1.among q l.1.place r h in
       let flag : get_or flags 0 false ≡ true = here q flags l ∙ ap (λ (x : Node). hits (serial_of x) top.rel new) e ∙ u.hit in
       false≢true (sym off_ ∙ and_from _ _ flag (ap (λ (x : Row). is_waiting x top) (sym row) ∙ u.waits))
 
-  pub hitting_on : (q : ℕ) (flags more : List Bool) → Hitting (cells m) top p new (Some q) flags → (r : Row) → option_map (λ (e : Entry Row). e.payload) (get m q) ≡ Some r → (get_or flags 0 false && is_waiting r top) ≡ false
+  pub hitting_on : (q : ℕ) (flags more : List Bool) → Hitting (cells m) top p new (Some q) flags → (r : Row) → option_map (λ (e : StoreRow Row). e.payload) (get m q) ≡ Some r → (get_or flags 0 false && is_waiting r top) ≡ false
       → (o : Option ℕ) → o ≡ parent_of m q → GoesUp top.rel r.kind false flags more → Hitting (cells m) top p new o more
   hitting_on q flags more l r h off_ None e raise =
       let root : l.0 ≡ Root = no_parent_node m s q l.0 l.1 (sym e) in

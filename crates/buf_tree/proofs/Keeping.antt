@@ -9,7 +9,7 @@ use Rattle.std.specs.FinSet as set
 use Rattle.std.specs.FinSet.{FinSet, nat_cmp-IsAntisymmetric, len-empty, empty_of_len}
 use Rattle.std.proofs.lemmas.Bool.{false≢true, eqb-true, eq-eqb, ne_eqb, cases_eq}
 use Rattle.tree_laws.proofs.Lists.{In, In-left, In-append, In-filter}
-use Rattle.node_store.specs.Rows.{Entry, changed_at, paid_by, with_payload, planted, appended}
+use Rattle.node_store.specs.Rows.{StoreRow, changed_at, paid_by, with_payload, planted, appended}
 use Rattle.buf_tree.specs.Row.{Row}
 use Rattle.buf_tree.specs.Shape.{Store, Cell, num, cells, is_under, entry_in, Shape, Shaped, with_at}
 use Rattle.gcx_base.specs.Kinds.{is_text}
@@ -224,11 +224,11 @@ module _ (m m' : Store) (xs : List Cell) (q p : ℕ) (row : Row) (is : cells m �
     ordered = subst (λ (zs : List Cell). Ordered zs) (sym cells_appended) (ordered_push xs (record { place = p; row = row }) q i under last (subst (λ (zs : List Cell). Ordered zs) is od));
   }
 
-pub row_in : (m : Store) (xs : List Cell) (q : ℕ) (r : Row) → cells m ≡ xs → Shaped m → (i : Innermost xs q) → option_map (λ (e : Entry Row). e.payload) (get m q) ≡ Some r → r.serial ≡ num i.cell
+pub row_in : (m : Store) (xs : List Cell) (q : ℕ) (r : Row) → cells m ≡ xs → Shaped m → (i : Innermost xs q) → option_map (λ (e : StoreRow Row). e.payload) (get m q) ≡ Some r → r.serial ≡ num i.cell
 row_in m xs q r e s i h =
     let t : Shape m xs = subst (λ (zs : List Cell). Shape m zs) e s in
     let g : get m q ≡ Some (entry_in xs i.cell) = ap (get m) (sym i.place) ∙ get_of m xs t i.cell i.among in
-    let same : Some i.cell.row ≡ Some r = sym (ap (option_map (λ (x : Entry Row). x.payload)) g) ∙ h in
+    let same : Some i.cell.row ≡ Some r = sym (ap (option_map (λ (x : StoreRow Row). x.payload)) g) ∙ h in
     let is : i.cell.row ≡ r = cc in
     sym (ap (λ (x : Row). x.serial) is)
 
@@ -239,7 +239,7 @@ free_place m xs p e s free c i f =
     absurd (cc)
 
 pub kept_opened : (m m' : Store) (v : View) (q p : ℕ) (row above : Row) (gone0 gone : List ℕ) (cap0 cap count nodes : ℕ) → cells m ≡ v.rows → Kept m gone0 cap0 count nodes → Innermost v.rows q → get m p ≡ None → m' ≡ appended m q p row
-    → row.serial ≡ nodes → option_map (λ (e : Entry Row). e.payload) (get m q) ≡ Some above → row.parent ≡ above.serial → length gone + (count + 1) ≤ cap → (IsDead row → ⊥) → Kept m' gone cap (count + 1) (nodes + 1)
+    → row.serial ≡ nodes → option_map (λ (e : StoreRow Row). e.payload) (get m q) ≡ Some above → row.parent ≡ above.serial → length gone + (count + 1) ≤ cap → (IsDead row → ⊥) → Kept m' gone cap (count + 1) (nodes + 1)
 kept_opened m m' v q p row above gone0 gone cap0 cap count nodes e k i free now new h par room alive =
     kept_appended m m' v.rows q p row e k.shape k.tidy k.ordered i free now (par ∙ row_in m v.rows q above e k.shape i h) (λ x j. let l = below x j in omega arith) gone cap count nodes k.held room below new alive
   where
@@ -247,7 +247,7 @@ kept_opened m m' v q p row above gone0 gone cap0 cap count nodes e k i free now 
     below x j = k.below x (subst (λ (zs : List Cell). In x zs) (sym e) j)
 
 pub cells_opened : (m m' : Store) (v : View) (q p : ℕ) (row above : Row) (gone0 : List ℕ) (cap0 count nodes : ℕ) → cells m ≡ v.rows → Kept m gone0 cap0 count nodes → Innermost v.rows q → get m p ≡ None → m' ≡ appended m q p row
-    → row.serial ≡ nodes → option_map (λ (e : Entry Row). e.payload) (get m q) ≡ Some above → row.parent ≡ above.serial → cells m' ≡ v.rows ++ record { place = p; row = row } ∷ []
+    → row.serial ≡ nodes → option_map (λ (e : StoreRow Row). e.payload) (get m q) ≡ Some above → row.parent ≡ above.serial → cells m' ≡ v.rows ++ record { place = p; row = row } ∷ []
 cells_opened m m' v q p row above gone0 cap0 count nodes e k i free now new h par =
     cells_appended m m' v.rows q p row e k.shape k.tidy k.ordered i free now (par ∙ row_in m v.rows q above e k.shape i h) (λ x j. let l = k.below x (subst (λ (zs : List Cell). In x zs) (sym e) j) in omega arith)
 
@@ -261,7 +261,7 @@ more_rows m xs c s e = rows_number m (cells m) s ∙ ap length e ∙ length-appe
 keeps_untaken : (k : ℕ) (r : Row) → ((untaken k r).serial ≡ r.serial) × ((untaken k r).parent ≡ r.parent)
 keeps_untaken k r = (refl, refl)
 
-pub role_there : (m : Store) (xs : List Cell) (p k : ℕ) → Shaped m → cells m ≡ xs → HasRole xs p k → (e : Entry Row) × (get m p ≡ Some e) × (set.contains e.payload.roles k ≡ true)
+pub role_there : (m : Store) (xs : List Cell) (p k : ℕ) → Shaped m → cells m ≡ xs → HasRole xs p k → (e : StoreRow Row) × (get m p ≡ Some e) × (set.contains e.payload.roles k ≡ true)
 role_there m xs p k s e i = (entry_in (cells m) i.cell, ap (get m) (sym i.place) ∙ get_of m (cells m) s i.cell (subst (λ (zs : List Cell). In i.cell zs) (sym e) i.among), i.has)
 
 pub ready_untaken : (m m' : Store) (xs : List Cell) (p k : ℕ) (gone : List ℕ) (cap count nodes : ℕ) → cells m ≡ xs → m' ≡ changed_at (paid_by (untaken k)) p m → Kept m gone cap count nodes → HasRole xs p k → Ready m' p gone cap count nodes
@@ -273,15 +273,15 @@ pub cells_untaken : (m m' : Store) (xs : List Cell) (p k : ℕ) → cells m ≡ 
 cells_untaken m m' xs p k e f s = ap cells f ∙ cells_changed (untaken k) (keeps_untaken k) (λ r o. o) m p s ∙ ap (map (with_at (untaken k) p)) e
 
 -- a payload written back as it was
-pub row_again : (m : Store) (p : ℕ) (x y : Row) → option_map (λ (e : Entry Row). e.payload) (get m p) ≡ Some y → x ≡ y → changed_at (with_payload x) p m ≡ m
+pub row_again : (m : Store) (p : ℕ) (x y : Row) → option_map (λ (e : StoreRow Row). e.payload) (get m p) ≡ Some y → x ≡ y → changed_at (with_payload x) p m ≡ m
 row_again m p x y h s = same_map nat_cmp_total nat_cmp-IsAntisymmetric (changed_at (with_payload x) p m) m (λ q. get_changed (with_payload x) p m q ∙ go q (q == p) refl)
   where
-    same : (o : Option (Entry Row)) → option_map (λ (e : Entry Row). e.payload) o ≡ Some y → option_map (with_payload x) o ≡ o
+    same : (o : Option (StoreRow Row)) → option_map (λ (e : StoreRow Row). e.payload) o ≡ Some y → option_map (with_payload x) o ≡ o
     same None e = refl
     same (Some e) k = let is : e.payload ≡ y = cc in ap (λ (z : Row). Some (record e { payload = z })) (s ∙ sym is)
 
     go : (q : ℕ) (b : Bool) → (q == p) ≡ b → cond b (option_map (with_payload x) (get m q)) (get m q) ≡ get m q
-    go q true e = same (get m q) (ap (λ z. option_map (λ (d : Entry Row). d.payload) (get m z)) (eqb-true q p e) ∙ h)
+    go q true e = same (get m q) (ap (λ z. option_map (λ (d : StoreRow Row). d.payload) (get m z)) (eqb-true q p e) ∙ h)
     go q false e = refl
 
 pub on_err : {X E P : Type 0} (r : Result X E) → P → OnErr r P

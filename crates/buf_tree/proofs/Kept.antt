@@ -7,12 +7,12 @@ use Rattle.std.proofs.lemmas.Bool.{false≢true, and_from, ne_eqb, eq-eqb, cases
 use Rattle.gcx_base.specs.declared.kind.Kind.{Kind}
 use Rattle.gcx_model.specs.declared.item.Off.{Off}
 use Rattle.gcx_model.specs.ItemView.{off_tree, role_kind}
-use Rattle.gcx_model.specs.Core.{RoleKind, Own, First, Whole}
+use Rattle.gcx_model.specs.Core.{RoleTarget, Own, First, Whole}
 use Rattle.gcx_model.specs.Held.{reaches}
 use Rattle.gcx_model.specs.Tree.{Tree, Node, Root, Under, serial_of, above}
 use Rattle.tree_laws.proofs.Lists.{In}
 use Rattle.tree_laws.proofs.Chains.{above_self, above_trans}
-use Rattle.node_store.specs.Rows.{Entry, parent_of}
+use Rattle.node_store.specs.Rows.{StoreRow, parent_of}
 use Rattle.buf_tree.specs.Row.{Row}
 use Rattle.buf_tree.specs.Shape.{Store, Cell, cells, Shaped}
 use Rattle.buf_tree.specs.Ways.{Tells, NodeOf, Descends, Flags, FlagsBut, TreeOf, IsKept, is_waiting, is_same, is_whole, tail_steps, tail_ends, ends_at}
@@ -31,12 +31,12 @@ Keeping rows T off n None tails rels = IsKept rows T off n → ⊥
 Keeping rows T off n (Some p) tails rels =
     (h : Node) × NodeOf rows p h × In h (above n) × Flags (tail_ends (role_kind off.kind) n) (serial_of h) (tail_steps (role_kind off.kind) off.tail) n tails × FlagsBut (ends_at T (role_kind off.kind) off.tail n) (serial_of h) off.rel n rels × Unkept rows T off n (serial_of h)
 
-tail_end : (k : RoleKind) (n : Node) → true ≡ tail_ends k n n
+tail_end : (k : RoleTarget) (n : Node) → true ≡ tail_ends k n n
 tail_end Own n = sym (eq-eqb _ _ refl)
 tail_end First n = sym (eq-eqb _ _ refl)
 tail_end Whole n = refl
 
-tail_up : (k : RoleKind) (n g : Node) (v : ℕ) (w : Kind) → Descends n → In (Under g v w) (above n) → is_whole k ≡ tail_ends k n g
+tail_up : (k : RoleTarget) (n g : Node) (v : ℕ) (w : Kind) → Descends n → In (Under g v w) (above n) → is_whole k ≡ tail_ends k n g
 tail_up k n g v w d i = go k
   where
     other : is_same n g ≡ false
@@ -45,7 +45,7 @@ tail_up k n g v w d i = go k
         let c = (descends_above n (Under g v w) d i).0 in
         ne_eqb (serial_of g) (serial_of n) (λ z. omega arith)
 
-    go : (k : RoleKind) → is_whole k ≡ tail_ends k n g
+    go : (k : RoleTarget) → is_whole k ≡ tail_ends k n g
     go Own = sym other
     go First = sym other
     go Whole = refl
@@ -67,7 +67,7 @@ module _ (m : Store) (s : Shaped m) (T : Tree) (tree : TreeOf (cells m) T) (off 
     keeping_reach : get_or (set rels (length off.rel) end) 0 false ≡ reaches T (off_tree off) l.0 n
     keeping_reach = keeping_flags.each 0 (omega arith) ∙ sym (gives_leads m s T tree l.0 n off.rel off.tail (role_kind off.kind) (tree.told p l.0 l.1) (tree.told place n v))
 
-    pub keeping_found : (r : Row) → option_map (λ (e : Entry Row). e.payload) (get m p) ≡ Some r → get_or (set rels (length off.rel) end) 0 false ≡ true → is_waiting r off ≡ true → IsKept (cells m) T off n
+    pub keeping_found : (r : Row) → option_map (λ (e : StoreRow Row). e.payload) (get m p) ≡ Some r → get_or (set rels (length off.rel) end) 0 false ≡ true → is_waiting r off ≡ true → IsKept (cells m) T off n
     keeping_found r f e w = record {
       place = p;
       base = l.0;
@@ -76,7 +76,7 @@ module _ (m : Store) (s : Shaped m) (T : Tree) (tree : TreeOf (cells m) T) (off 
       reached = sym keeping_reach ∙ e;
     }
 
-    here : (r : Row) → option_map (λ (e : Entry Row). e.payload) (get m p) ≡ Some r → (get_or (set rels (length off.rel) end) 0 false && is_waiting r off) ≡ false
+    here : (r : Row) → option_map (λ (e : StoreRow Row). e.payload) (get m p) ≡ Some r → (get_or (set rels (length off.rel) end) 0 false && is_waiting r off) ≡ false
         → (q : ℕ) (b : Node) (u : NodeOf (cells m) q b) → b ≡ l.0 → is_waiting u.cell.row off ≡ true → reaches T (off_tree off) b n ≡ true → ⊥
     here r f e q b u is w y =
         let k : Tells (cells m) u.cell l.0 = subst (λ (x : Node). Tells (cells m) u.cell x) is u.tells in
@@ -85,7 +85,7 @@ module _ (m : Store) (s : Shaped m) (T : Tree) (tree : TreeOf (cells m) T) (off 
         false≢true (sym e ∙ and_from _ _ (keeping_reach ∙ ap (λ (x : Node). reaches T (off_tree off) x n) (sym is) ∙ y) (ap (λ (x : Row). is_waiting x off) (sym row) ∙ w))
 
     -- on to the parent
-    pub keeping_on : (o : Option ℕ) → o ≡ parent_of m p → (r : Row) → option_map (λ (e : Entry Row). e.payload) (get m p) ≡ Some r → (get_or (set rels (length off.rel) end) 0 false && is_waiting r off) ≡ false
+    pub keeping_on : (o : Option ℕ) → o ≡ parent_of m p → (r : Row) → option_map (λ (e : StoreRow Row). e.payload) (get m p) ≡ Some r → (get_or (set rels (length off.rel) end) 0 false && is_waiting r off) ≡ false
         → (tails' rels' : List Bool)
         → ((g : Node) (v : ℕ) → In (Under g v r.kind) (above n) → is_whole (role_kind off.kind) ≡ tail_ends (role_kind off.kind) n g → Flags (tail_ends (role_kind off.kind) n) v (tail_steps (role_kind off.kind) off.tail) n tails → Flags (tail_ends (role_kind off.kind) n) (serial_of g) (tail_steps (role_kind off.kind) off.tail) n tails')
         → ((g : Node) (v : ℕ) → In (Under g v r.kind) (above n) → Flags (ends_at T (role_kind off.kind) off.tail n) v off.rel n (set rels (length off.rel) end) → FlagsBut (ends_at T (role_kind off.kind) off.tail n) (serial_of g) off.rel n rels')

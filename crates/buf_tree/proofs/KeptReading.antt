@@ -4,7 +4,7 @@ use Rattle.std.specs.Prelude.{option_map, option_and_then}
 use Rattle.std.specs.FinMap.{get}
 use Rattle.gcx_model.specs.Members.{In}
 use Rattle.base_laws.proofs.Members.{in_map, from_map}
-use Rattle.node_store.specs.Rows.{Entry, parent_of}
+use Rattle.node_store.specs.Rows.{StoreRow, parent_of}
 use Rattle.buf_tree.specs.Row.{Row}
 use Rattle.buf_tree.specs.Shape.{Store, Cell, num, CellsRise, Shape, at_serial, place_for}
 use Rattle.buf_tree.specs.Match.{IsChild}
@@ -52,18 +52,18 @@ module _ (m : Store) (ks rs : List Cell) (s : Shape m ks) (same : SameButRoles k
       rising_same rs seen_rise a b i j (sym (ap num k.2) ∙ (ap num one ∙ ap num l.2))
 
   -- what the store has at the row's place is the row but for its roles
-  payload_here : (p : ℕ) (r : Row) → option_map (λ (e : Entry Row). e.payload) (get m p) ≡ Some r → (c : Cell) → In c rs → c.place ≡ p → (k : Cell) × (k.row ≡ r) × (bare_cell k ≡ bare_cell c)
+  payload_here : (p : ℕ) (r : Row) → option_map (λ (e : StoreRow Row). e.payload) (get m p) ≡ Some r → (c : Cell) → In c rs → c.place ≡ p → (k : Cell) × (k.row ≡ r) × (bare_cell k ≡ bare_cell c)
   payload_here p r h c i e =
       let k = kept_of ks rs same c i in
       let at : k.0.place ≡ p = ap (λ (z : Cell). z.place) k.2 ∙ e in
-      let found : Some k.0.row ≡ Some r = sym (ap (option_map (λ (x : Entry Row). x.payload)) (ap (get m) (sym at) ∙ get_of m ks s k.0 k.1)) ∙ h in
+      let found : Some k.0.row ≡ Some r = sym (ap (option_map (λ (x : StoreRow Row). x.payload)) (ap (get m) (sym at) ∙ get_of m ks s k.0 k.1)) ∙ h in
       let row : k.0.row ≡ r = cc in
       (k.0, row, k.2)
 
-  pub kind_told : (p : ℕ) (r : Row) → option_map (λ (e : Entry Row). e.payload) (get m p) ≡ Some r → (c : Cell) → In c rs → c.place ≡ p → c.row.kind ≡ r.kind
+  pub kind_told : (p : ℕ) (r : Row) → option_map (λ (e : StoreRow Row). e.payload) (get m p) ≡ Some r → (c : Cell) → In c rs → c.place ≡ p → c.row.kind ≡ r.kind
   kind_told p r h c i e = let k = payload_here p r h c i e in sym (ap (λ (z : Cell). z.row.kind) k.2) ∙ ap (λ (z : Row). z.kind) k.1
 
-  pub num_told : (p : ℕ) (r : Row) → option_map (λ (e : Entry Row). e.payload) (get m p) ≡ Some r → (c : Cell) → In c rs → c.place ≡ p → num c ≡ r.serial
+  pub num_told : (p : ℕ) (r : Row) → option_map (λ (e : StoreRow Row). e.payload) (get m p) ≡ Some r → (c : Cell) → In c rs → c.place ≡ p → num c ≡ r.serial
   num_told p r h c i e = let k = payload_here p r h c i e in sym (ap num k.2) ∙ ap (λ (z : Row). z.serial) k.1
 
   -- the parent's row
@@ -86,5 +86,5 @@ module _ (m : Store) (ks rs : List Cell) (s : Shape m ks) (same : SameButRoles k
       let k = kept_of ks rs same c i in
       let place = place_bare c.row.parent ks ∙ (ap (λ (zs : List Cell). option_map (λ (d : Cell). d.place) (at_serial c.row.parent zs)) same ∙ sym (place_bare c.row.parent rs)) in
       sym (ap (λ (z : Cell). parent_of m z.place) k.2)
-      ∙ (ap (option_and_then (λ (x : Entry Row). x.parent)) (get_of m ks s k.0 k.1)
+      ∙ (ap (option_and_then (λ (x : StoreRow Row). x.parent)) (get_of m ks s k.0 k.1)
       ∙ (ap (λ (z : Cell). place_for ks z.row) k.2 ∙ ap (λ (o : Option ℕ). cond (c.row.serial == 0) None o) place))

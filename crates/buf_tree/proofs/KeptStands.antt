@@ -4,7 +4,7 @@ use Rattle.std.specs.List.{filter}
 use Rattle.std.specs.Ordering.{nat_cmp}
 use Rattle.std.specs.FinSet.{FinSet, from_list, contains, remove}
 use Rattle.std.proofs.lemmas.Bool.{and_parts, and_from}
-use Rattle.gcx_model.specs.Tree.{Node, Token, serial_of, grow}
+use Rattle.gcx_model.specs.Tree.{Node, TreeToken, serial_of, grow}
 use Rattle.gcx_model.specs.Members.{count}
 use Rattle.gcx_model.specs.Core.{OffTree}
 use Rattle.gcx_model.specs.Run.{Offed}
@@ -66,7 +66,7 @@ module _ (s : Option SpreadView) (past : Past) (ks rs : List Cell) (ns : List No
 
 -- ---- behind a token
 
-pub kept_fed : (s : Option SpreadView) (past : Past) → IsPast past → (t : Token) (n : Node) → In n past.tree.nodes → kept_roles s (past_fed t past) n ≡ kept_roles s past n
+pub kept_fed : (s : Option SpreadView) (past : Past) → IsPast past → (t : TreeToken) (n : Node) → In n past.tree.nodes → kept_roles s (past_fed t past) n ≡ kept_roles s past n
 kept_fed None past is t n i = filter_same (live past.plan (grow t past.tree) past.acts n) (live past.plan past.tree past.acts n) (count 0 (length past.plan.roles)) (λ r k. (live_by_feed past is t n i).0 r)
 kept_fed (Some v) past is t n i = (kept_by_feed past is t n i).1
 

@@ -5,7 +5,7 @@ use Rattle.std.specs.List.{filter}
 use Rattle.std.specs.FinMap.{get}
 use Rattle.std.proofs.lemmas.Bool.{and_parts, and_from, false≢true, eqb-true, eq-eqb, ne_eqb, cases_eq}
 use Rattle.tree_laws.proofs.Lists.{In, In-filter, In-kept}
-use Rattle.node_store.specs.Rows.{Entry, parent_of, next_of, prev_of, after, before, head_of, last_of, children_in, children_of}
+use Rattle.node_store.specs.Rows.{StoreRow, parent_of, next_of, prev_of, after, before, head_of, last_of, children_in, children_of}
 use Rattle.buf_tree.specs.Shape.{Store, Cell, num, CellsRise, is_under, place_for, at_serial, Shape}
 use Rattle.buf_tree.specs.Match.{IsChild}
 use Rattle.buf_tree.proofs.Shaping.{get_of, held_in, at_serial_is}
@@ -214,7 +214,7 @@ module _ (m : Store) (xs : List Cell) (s : Shape m xs) where
 
   -- parents
   parent_link : (c : Cell) → In c xs → parent_of m c.place ≡ place_for xs c.row
-  parent_link c i = ap (option_and_then (λ (x : Entry _). x.parent)) (get_of m xs s c i)
+  parent_link c i = ap (option_and_then (λ (x : StoreRow _). x.parent)) (get_of m xs s c i)
 
   up_link : (c p : Cell) → In p xs → IsChild p c → place_for xs c.row ≡ Some p.place
   up_link c p i k =

@@ -4,7 +4,7 @@ use Rattle.std.specs.Prelude.{option_map}
 use Rattle.std.specs.FinMap.{get}
 use Rattle.std.proofs.lemmas.Bool.{true≢false}
 use Rattle.gcx_model.specs.Members.{In}
-use Rattle.node_store.specs.Rows.{Entry, appended}
+use Rattle.node_store.specs.Rows.{StoreRow, appended}
 use Rattle.buf_tree.specs.Row.{Row}
 use Rattle.buf_tree.specs.Rows.{IsDead}
 use Rattle.buf_tree.specs.Shape.{Store, Cell, num, cells}
@@ -26,7 +26,7 @@ pub alive_open : (row : Row) → row.is_open ≡ true → IsDead row → ⊥
 alive_open row o dead = true≢false (sym o ∙ dead.0)
 
 module _ (m m' : Store) (v : View) (q p : ℕ) (row above : Row) (gone0 : List ℕ) (cap0 count nodes : ℕ) (e : cells m ≡ v.rows) (k : Kept m gone0 cap0 count nodes) (i : Innermost v.rows q) (free : get m p ≡ None) (now : m' ≡ appended m q p row)
-    (behind : (c : Cell) → In c v.rows → num c < row.serial) (h : option_map (λ (x : Entry Row). x.payload) (get m q) ≡ Some above) (par : row.parent ≡ above.serial) where
+    (behind : (c : Cell) → In c v.rows → num c < row.serial) (h : option_map (λ (x : StoreRow Row). x.payload) (get m q) ≡ Some above) (par : row.parent ≡ above.serial) where
   kept_then : Kept m gone0 cap0 count row.serial
   kept_then = kept_below m gone0 cap0 count nodes row.serial (λ d j. behind d (subst (λ (zs : List Cell). In d zs) e j)) k
 

@@ -8,7 +8,7 @@ use Rattle.std.proofs.lemmas.List.{drop_all}
 use Rattle.gcx_model.specs.Held.{held}
 use Rattle.gcx_model.specs.Past.{Past, awaited}
 use Rattle.gcx_model.specs.Tree.{Node}
-use Rattle.node_store.specs.Rows.{Entry, changed_at, paid_by}
+use Rattle.node_store.specs.Rows.{StoreRow, changed_at, paid_by}
 use Rattle.buf_tree.specs.declared.ahead.Ahead.{Ahead}
 use Rattle.buf_tree.specs.Calls.{Closed, HasRole, Left, Untaken}
 use Rattle.buf_tree.specs.Purge.{Cleared}
@@ -82,7 +82,7 @@ module _ (s : Option SpreadView) (m0 : Store) (g0 : List ℕ) (waiting : List Ah
     role_was : HasRole (cells m0) p k
     role_was = role_kept s (cells m0) up p k plain_was (subst (λ (z : View). HasRole z.rows p k) (sym is) role)
 
-    pub role_kept_there : (e : Entry Row) × (get m0 p ≡ Some e) × (contains e.payload.roles k ≡ true)
+    pub role_kept_there : (e : StoreRow Row) × (get m0 p ≡ Some e) × (contains e.payload.roles k ≡ true)
     role_kept_there = role_there m0 (cells m0) p k kept.shape refl role_was
 
     module _ (m1 : Store) (f : m1 ≡ changed_at (paid_by (untaken k)) p m0) where

@@ -9,7 +9,7 @@ use Rattle.std.proofs.lemmas.Bool.{and_parts, and_from, false≢true, not-true, 
 use Rattle.gcx_base.specs.declared.steps.Step.{Step}
 use Rattle.gcx_model.specs.declared.item.Off.{Off}
 use Rattle.gcx_model.specs.ItemView.{off_tree, role_kind}
-use Rattle.gcx_model.specs.Core.{RoleKind, Own, First, Whole, OffTree}
+use Rattle.gcx_model.specs.Core.{RoleTarget, Own, First, Whole, OffTree}
 use Rattle.gcx_model.specs.Tree.{Tree, Node, Root, serial_of, above}
 use Rattle.gcx_model.specs.Placed.{offs_in, is_own, is_own_kind, is_empty}
 use Rattle.gcx_model.specs.Run.{Offed}
@@ -59,7 +59,7 @@ node_for_is (x ∷ ns) one n i = go (serial_of x == serial_of n) refl i (λ j. n
 own_reaches : (P : Tree) (o : OffTree) (b n : Node) → is_own o ≡ true → reaches P o b n ≡ (serial_of n == serial_of b)
 own_reaches P o b n h = go o.kind o.rel h
   where
-    go : (k : RoleKind) (rel : List Step) → (is_own_kind k && is_empty rel) ≡ true → gives P (serial_of b) rel o.tail k n ≡ (serial_of n == serial_of b)
+    go : (k : RoleTarget) (rel : List Step) → (is_own_kind k && is_empty rel) ≡ true → gives P (serial_of b) rel o.tail k n ≡ (serial_of n == serial_of b)
     go Own [] e = refl
     go Own (x ∷ rel) e = absurd (false≢true e)
     go First rel e = absurd (false≢true e)

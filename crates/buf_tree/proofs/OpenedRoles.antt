@@ -11,7 +11,7 @@ use Rattle.gcx_model.specs.Core.{OffTree}
 use Rattle.gcx_model.specs.Growth.{may_come}
 use Rattle.gcx_model.specs.Paths.{hits}
 use Rattle.gcx_model.specs.Placed.{offs_in}
-use Rattle.gcx_model.specs.Tree.{Token, Node, Under, serial_of, above, grow}
+use Rattle.gcx_model.specs.Tree.{TreeToken, Node, Under, serial_of, above, grow}
 use Rattle.gcx_model.specs.Held.{path_of, statement_of, on_off, given, live, roles_live, held}
 use Rattle.gcx_model.specs.Members.{count}
 use Rattle.gcx_base.specs.declared.steps.Step.{Step}
@@ -44,7 +44,7 @@ use Rattle.buf_tree.proofs.Standing.{pair_left}
 
 -- The rows kept are ks, those seen stand for the past, and the token opens n below p, which has these roles.
 module _ (past : Past) (is : IsPast past) (s : SpreadView) (of_plan : SpreadsAs (Some s) past.plan) (ks : List Cell) (up : Upward [] ks) (rise : CellsRise ks)
-    (rows : map seen (seen_rows (Some s) ks) ≡ map (told past) (held past.plan past.tree past.acts)) (t : Token) (may : may_come t past.tree ≡ true)
+    (rows : map seen (seen_rows (Some s) ks) ≡ map (told past) (held past.plan past.tree past.acts)) (t : TreeToken) (may : may_come t past.tree ≡ true)
     (p : Node) (k : ℕ) (kind : Kind) (new : Opens past.tree t (Under p k kind)) (at : past.tree.at ≡ Some p)
     (roles : FinSet nat_cmp) (left : roles ≡ from_list (roles_live past.plan (grow t past.tree) past.acts (Under p k kind))) where
   abbrev now : Past

@@ -7,7 +7,7 @@ use Rattle.gcx_model.specs.Growth.{may_come}
 use Rattle.gcx_model.specs.Held.{given, taken, roles_live, held, is_held}
 use Rattle.gcx_model.specs.Members.{count}
 use Rattle.gcx_model.specs.Past.{Past, IsPast, Opens, IsNode, past_grown, token_for}
-use Rattle.gcx_model.specs.Tree.{Token, Node, Under, serial_of, grow}
+use Rattle.gcx_model.specs.Tree.{TreeToken, Node, Under, serial_of, grow}
 use Rattle.base_laws.proofs.Members.{in_drop}
 use Rattle.tree_laws.proofs.Lists.{In, In-filter, In-left, In-append}
 use Rattle.tree_laws.proofs.Matches.{Numbered-high, Numbered-same, added, grow_nodes}
@@ -32,7 +32,7 @@ use Rattle.buf_tree.proofs.WithRoles.{new_alone}
 module _ (s : SpreadView) (ks : List Cell) (up : Upward [] ks) (rise : CellsRise ks) (past : Past) (is : IsPast past) (of_plan : SpreadsAs (Some s) past.plan)
     (rows : map seen (seen_rows (Some s) ks) ≡ map (told past) (held past.plan past.tree past.acts)) (kind : Kind) (node : IsNode kind) (may : may_come (token_for kind) past.tree ≡ true)
     (p : Node) (at : past.tree.at ≡ Some p) (roles : FinSet nat_cmp) (left : LeftTo past (token_for kind) roles) (q : ℕ) (c0 : Cell) (i0 : In c0 ks) (here : c0.place ≡ q) (me : num c0 ≡ serial_of p) where
-  abbrev t : Token
+  abbrev t : TreeToken
   t = token_for kind
 
   abbrev rs : List Cell

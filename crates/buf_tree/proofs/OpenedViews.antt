@@ -8,7 +8,7 @@ use Rattle.gcx_base.specs.declared.kind.Kind.{Kind}
 use Rattle.gcx_model.specs.Growth.{may_come}
 use Rattle.gcx_model.specs.Held.{held}
 use Rattle.gcx_model.specs.Past.{Past, IsPast, IsNode, past_grown, token_for}
-use Rattle.gcx_model.specs.Tree.{Node, Token, serial_of, grow}
+use Rattle.gcx_model.specs.Tree.{Node, TreeToken, serial_of, grow}
 use Rattle.tree_laws.proofs.Lists.{In, In-left}
 use Rattle.tree_laws.proofs.Matches.{added, grow_nodes}
 use Rattle.past_laws.proofs.PastForms.{past_feeds}
@@ -73,7 +73,7 @@ new_known (Some w) ks up rise apart q c0 i0 here kind node nodes roles R (inr x)
     (known_born w ks up rise x.0 t.0 t.1 t.2 kind node t.3 t.6.0 t.6.1 roles t.4 q c0 i0 here t.6.2 apart R x.2)
 
 -- a token leaves what is kept at the nodes before, whenever statements were carried out
-kept_grown : (s : Option SpreadView) (past : Past) → IsPast past → (t : Token) (n : Node) → In n past.tree.nodes → kept_roles s (past_grown t past) n ≡ kept_roles s past n
+kept_grown : (s : Option SpreadView) (past : Past) → IsPast past → (t : TreeToken) (n : Node) → In n past.tree.nodes → kept_roles s (past_grown t past) n ≡ kept_roles s past n
 kept_grown None past is t n i = kept_fed None past is t n i
 kept_grown (Some w) past is t n i = kept_fed (Some w) past is t n i
 

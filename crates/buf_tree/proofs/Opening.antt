@@ -11,7 +11,7 @@ use Rattle.std.proofs.lemmas.Bool.{or_left, or_right, or_cases, and_parts, and_f
 use Rattle.gcx_base.specs.declared.ids.Role.{Role}
 use Rattle.gcx_base.specs.declared.kind.Kind.{Kind}
 use Rattle.gcx_base.specs.declared.kind.Kind.TheVariants.{Document, Element, Text}
-use Rattle.gcx_model.specs.Tree.{Tree, Token, Node, Under, serial_of, within, is_open_at, grow, grow_at}
+use Rattle.gcx_model.specs.Tree.{Tree, TreeToken, Node, Under, serial_of, within, is_open_at, grow, grow_at}
 use Rattle.gcx_model.specs.Growth.{may_come, level}
 use Rattle.gcx_model.specs.Paths.{any}
 use Rattle.gcx_model.specs.Members.{count}
@@ -105,7 +105,7 @@ module _ (v u : View) (q : ℕ) (at : Option ℕ) (kind : Kind) (gs as_ : List R
   abbrev P : Tree
   P = past.tree
 
-  abbrev t : Token
+  abbrev t : TreeToken
   t = token_for kind
 
   abbrev Q : Tree

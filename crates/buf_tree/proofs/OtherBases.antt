@@ -6,7 +6,7 @@ use Rattle.std.specs.FinMap.{get}
 use Rattle.std.proofs.lemmas.Bool.{false≢true, cases_lt}
 use Rattle.gcx_model.specs.declared.item.Off.{Off}
 use Rattle.tree_laws.proofs.Lists.{In}
-use Rattle.node_store.specs.Rows.{Entry, parent_of}
+use Rattle.node_store.specs.Rows.{StoreRow, parent_of}
 use Rattle.buf_tree.specs.Row.{Row}
 use Rattle.buf_tree.specs.Shape.{Store, Cell, num, cells, Shaped}
 use Rattle.buf_tree.specs.Walk.{Nested, Inside, Within, BeforeIn}
@@ -32,10 +32,10 @@ module _ (m : Store) (s : Shaped m) (nest : Nested (cells m)) (off : Off) where
       let k = parent_row m (cells m) s h i q (sym e) in
       (k.0, k.1, k.3, child_inside (cells m) s.rising nest s.up k.0 h k.1 i k.2, λ b j n w. parent_within (cells m) s.rising nest s.up b k.0 h j k.1 i n k.2)
 
-  pub upwards_found : (h : Cell) (p : ℕ) → Upwards (cells m) off h (Some p) → (r : Row) → option_map (λ (e : Entry Row). e.payload) (get m p) ≡ Some r → is_waiting r off ≡ true → BaseAbove (cells m) off h
+  pub upwards_found : (h : Cell) (p : ℕ) → Upwards (cells m) off h (Some p) → (r : Row) → option_map (λ (e : StoreRow Row). e.payload) (get m p) ≡ Some r → is_waiting r off ≡ true → BaseAbove (cells m) off h
   upwards_found h p u r f w = (u.0, u.1, u.3, ap (λ (x : Row). is_waiting x off) (cell_row m s u.0 u.1 p u.2 r f) ∙ w)
 
-  pub upwards_on : (h : Cell) → In h (cells m) → (p : ℕ) → Upwards (cells m) off h (Some p) → (r : Row) → option_map (λ (e : Entry Row). e.payload) (get m p) ≡ Some r → is_waiting r off ≡ false → (o : Option ℕ) → o ≡ parent_of m p → Upwards (cells m) off h o
+  pub upwards_on : (h : Cell) → In h (cells m) → (p : ℕ) → Upwards (cells m) off h (Some p) → (r : Row) → option_map (λ (e : StoreRow Row). e.payload) (get m p) ≡ Some r → is_waiting r off ≡ false → (o : Option ℕ) → o ≡ parent_of m p → Upwards (cells m) off h o
   upwards_on h i p u r f w None e = λ b.
       let z = no_parent m (cells m) s u.0 u.1 (ap (parent_of m) u.2 ∙ sym e) in
       elim (u.4 b.0 b.1 b.2 b.3) [
@@ -57,10 +57,10 @@ module _ (m : Store) (s : Shaped m) (nest : Nested (cells m)) (off : Off) where
   pub backwards_start : (c : Cell) (o : Option ℕ) → (k : ℕ) × BeforeIn (cells m) (Inside (cells m) c) k o × ((x : Cell) → In x (cells m) → Inside (cells m) c x → k ≤ num x → ⊥) → Backwards (cells m) off c o
   backwards_start c o b = (b.0, b.1, λ x i k l w. b.2 x i k l)
 
-  pub backwards_found : (c : Cell) (p : ℕ) → Backwards (cells m) off c (Some p) → (r : Row) → option_map (λ (e : Entry Row). e.payload) (get m p) ≡ Some r → is_waiting r off ≡ true → BaseBelow (cells m) off c
+  pub backwards_found : (c : Cell) (p : ℕ) → Backwards (cells m) off c (Some p) → (r : Row) → option_map (λ (e : StoreRow Row). e.payload) (get m p) ≡ Some r → is_waiting r off ≡ true → BaseBelow (cells m) off c
   backwards_found c p b r f w = (b.1.0, b.1.1, b.1.3, ap (λ (x : Row). is_waiting x off) (cell_row m s b.1.0 b.1.1 p b.1.2 r f) ∙ w)
 
-  pub backwards_on : (c : Cell) (p : ℕ) → (b : Backwards (cells m) off c (Some p)) → (r : Row) → option_map (λ (e : Entry Row). e.payload) (get m p) ≡ Some r → is_waiting r off ≡ false → (o : Option ℕ) → BeforeIn (cells m) (Inside (cells m) c) (num b.1.0) o → Backwards (cells m) off c o
+  pub backwards_on : (c : Cell) (p : ℕ) → (b : Backwards (cells m) off c (Some p)) → (r : Row) → option_map (λ (e : StoreRow Row). e.payload) (get m p) ≡ Some r → is_waiting r off ≡ false → (o : Option ℕ) → BeforeIn (cells m) (Inside (cells m) c) (num b.1.0) o → Backwards (cells m) off c o
   backwards_on c p b r f w o next = (
     num b.1.0,
     next,
@@ -83,9 +83,9 @@ either_below own above below A B e a f b = (
 )
 
 -- the payload of the row at a place
-pub paid_is : (o : Option (Entry Row)) (e : Entry Row) (r : Row) → o ≡ Some e → option_map (λ (x : Entry Row). x.payload) o ≡ Some r → e.payload ≡ r
-paid_is o e r f h = let z : Some e.payload ≡ Some r = sym (ap (option_map (λ (x : Entry Row). x.payload)) f) ∙ h in cc
+pub paid_is : (o : Option (StoreRow Row)) (e : StoreRow Row) (r : Row) → o ≡ Some e → option_map (λ (x : StoreRow Row). x.payload) o ≡ Some r → e.payload ≡ r
+paid_is o e r f h = let z : Some e.payload ≡ Some r = sym (ap (option_map (λ (x : StoreRow Row). x.payload)) f) ∙ h in cc
 
-pub has_paid : (o : Option (Entry Row)) (r : Row) (k : ℕ) → IsSome o → option_map (λ (x : Entry Row). x.payload) o ≡ Some r → contains r.roles k ≡ true → (e : Entry Row) × (o ≡ Some e) × (contains e.payload.roles k ≡ true)
+pub has_paid : (o : Option (StoreRow Row)) (r : Row) (k : ℕ) → IsSome o → option_map (λ (x : StoreRow Row). x.payload) o ≡ Some r → contains r.roles k ≡ true → (e : StoreRow Row) × (o ≡ Some e) × (contains e.payload.roles k ≡ true)
 has_paid None r k u h e = absurd (cc)
 has_paid (Some x) r k u h e = (x, refl, ap (λ (y : Row). contains y.roles k) (paid_is (Some x) x r refl h) ∙ e)

@@ -2,7 +2,7 @@
 use Rattle.std.proofs.Common.{◌≡◌, ℕ, sym, ◌∙◌, ap, Some, None}
 use Rattle.std.specs.Prelude.{option_map}
 use Rattle.std.specs.FinMap.{get}
-use Rattle.node_store.specs.Rows.{Entry, parent_of}
+use Rattle.node_store.specs.Rows.{StoreRow, parent_of}
 use Rattle.buf_tree.specs.Row.{Row}
 use Rattle.buf_tree.specs.Recount.{TellsParent}
 use Rattle.buf_tree.specs.Shape.{Store, cells, Shaped, AtPlace}
@@ -13,7 +13,7 @@ module _ (m : Store) (s : Shaped m) (p k : ℕ) (same : Some p ≡ Some k) where
   here : p ≡ k
   here = cc
 
-  pub link_tells : (q : ℕ) → Some q ≡ parent_of m p → (r : Row) → option_map (λ (e : Entry Row). e.payload) (get m q) ≡ Some r → AtPlace (cells m) k (TellsParent r.serial)
+  pub link_tells : (q : ℕ) → Some q ≡ parent_of m p → (r : Row) → option_map (λ (e : StoreRow Row). e.payload) (get m q) ≡ Some r → AtPlace (cells m) k (TellsParent r.serial)
   link_tells q e r paid c i at inner =
       let u = parent_row m (cells m) s c i q (ap (parent_of m) (at ∙ sym here) ∙ sym e) in
       ap (λ (x : Row). x.serial) (sym (cell_row m s u.0 u.1 q u.3 r paid)) ∙ sym u.2.0

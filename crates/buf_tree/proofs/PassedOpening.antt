@@ -7,7 +7,7 @@ use Rattle.std.proofs.lemmas.List.{map-append}
 use Rattle.std.proofs.lemmas.Bool.{and_parts, false_from_ne_true, false≢true, true≢false, eq-eqb}
 use Rattle.gcx_base.specs.declared.kind.Kind.{Kind}
 use Rattle.gcx_base.specs.declared.kind.Kind.TheVariants.{Element, Text}
-use Rattle.gcx_model.specs.Tree.{Node, Under, Token, Start, Chars, serial_of, grow}
+use Rattle.gcx_model.specs.Tree.{Node, Under, TreeToken, Start, Chars, serial_of, grow}
 use Rattle.gcx_model.specs.Growth.{may_come, may_come_at}
 use Rattle.gcx_model.specs.Members.{count}
 use Rattle.gcx_model.specs.Held.{given, taken, live, roles_given, path_of, statement_of, on_off, all_signed, held, is_held}
@@ -42,7 +42,7 @@ open_at None kind ns m = absurd (false≢true m)
 open_at (Some a) kind ns m = (a, refl)
 
 -- none is given, so none is taken
-given_none : (past : Past) (t : Token) → Grown past.tree → GivesNone past t → GivenTo past t [] []
+given_none : (past : Past) (t : TreeToken) → Grown past.tree → GivesNone past t → GivenTo past t [] []
 given_none past t w h n e = (sym none, sym (filter_none (taken past.plan (grow t past.tree) past.acts n) cs (λ r i. untaken r i)))
   where
     cs : List ℕ
@@ -69,7 +69,7 @@ given_none past t w h n e = (sym none, sym (filter_none (taken past.plan (grow t
 
 -- ---- what is kept behind it
 
-grown_fed : (s : Option SpreadView) (past : Past) (t : Token) (n : Node) → kept_set s (past_grown t past) n ≡ kept_set s (past_fed t past) n
+grown_fed : (s : Option SpreadView) (past : Past) (t : TreeToken) (n : Node) → kept_set s (past_grown t past) n ≡ kept_set s (past_fed t past) n
 grown_fed None past t n = refl
 grown_fed (Some s) past t n = refl
 
@@ -82,7 +82,7 @@ same_nodes ns one (x ∷ xs) (y ∷ ys) i j e = λ t. one x y (i x (inl refl)) (
 
 module _ (past : Past) (is : IsPast past) (kind : Kind) (node : IsNode kind) (m : may_come (token_for kind) past.tree ≡ true) (p : Node) (at : past.tree.at ≡ Some p) (gives : GivesNone past (token_for kind))
     (s : Option SpreadView) (ks rs : List Cell) (rows : map seen rs ≡ map (told past) (held past.plan past.tree past.acts)) (kept : map (λ c. c.row.roles) ks ≡ map (kept_set s past) (held past.plan past.tree past.acts)) where
-  abbrev came : Token
+  abbrev came : TreeToken
   came = token_for kind
 
   abbrev ns : List Node
@@ -162,7 +162,7 @@ module _ (v : View) (xs : List Passed) (past : Past) (h : StandsLoosely xs v pas
   stands = h (places_of xs) (places_length xs)
 
   module _ (kind : Kind) (k : IsNode kind) (m : may_come (token_for kind) past.tree ≡ true) (gives : GivesNone past (token_for kind)) where
-    abbrev t : Token
+    abbrev t : TreeToken
     t = token_for kind
 
     top : (a : Node) × (past.tree.at ≡ Some a)

@@ -15,7 +15,7 @@ use Rattle.tree_laws.proofs.Matches.{Numbered-same}
 use Rattle.past_laws.proofs.Bases.{is_grown}
 use Rattle.spread_laws.specs.Tops.{is_spread}
 use Rattle.spread_laws.proofs.Tops.{live_by_kept}
-use Rattle.node_store.specs.Rows.{Entry, appended}
+use Rattle.node_store.specs.Rows.{StoreRow, appended}
 use Rattle.buf_tree.specs.declared.ahead.Ahead.{Ahead}
 use Rattle.buf_tree.specs.Loose.{Passed, last_open, passed_cell, cells_passed, with_passed}
 use Rattle.buf_tree.specs.PassedCalls.{OpenedPassed, MayRest, RestsLoosely}
@@ -132,7 +132,7 @@ module _ (s : Option SpreadView) (m0 : Store) (g0 : List ℕ) (waiting : List Ah
   behind_kept : (d : Cell) → In d ks → num d < x.serial
   behind_kept d i = behind_was (spread_cell sp rs d) (seen_in s ks up d i)
 
-  module _ (above : Row) (paid : option_map (λ (e : Entry Row). e.payload) (get m0 q) ≡ Some above) (covered : Bool) (law : (covered ≡ true) ↔ KeepsSpread s above)
+  module _ (above : Row) (paid : option_map (λ (e : StoreRow Row). e.payload) (get m0 q) ≡ Some above) (covered : Bool) (law : (covered ≡ true) ↔ KeepsSpread s above)
       (row : Row) (row_is : row ≡ covered_by covered (below_row above.serial above.level x.serial (Element x.name) empty)) (p : ℕ) (free : get m0 p ≡ None) (m1 : Store) (now : m1 ≡ appended m0 q p row) where
     serial_top : above.serial ≡ num top.cell
     serial_top = serial_here s m0 g0 waiting cap count nodes taken0 most0 loans0 v is kept cov q inner above paid ∙ (sym (ap (λ (z : View). num_in (at_place q z.rows)) is) ∙ ap num_in at_top)

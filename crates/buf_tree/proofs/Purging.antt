@@ -7,7 +7,7 @@ use Rattle.std.specs.FinMap.{get}
 use Rattle.std.proofs.lemmas.Bool.{or_cases, or_left, and_parts, and_from, false≢true, eqb-true, eq-eqb, ne_eqb, cases_eq, cases_Bool, false_from_ne_true}
 use Rattle.gcx_model.specs.Paths.{any}
 use Rattle.tree_laws.proofs.Lists.{In, In-append, In-filter, In-kept, filter_same}
-use Rattle.node_store.specs.Rows.{Entry, unlinked, parent_of}
+use Rattle.node_store.specs.Rows.{StoreRow, unlinked, parent_of}
 use Rattle.buf_tree.specs.Row.{Row}
 use Rattle.buf_tree.specs.Shape.{Store, Cell, num, cells, CellsRise, at_serial, place_for, is_under, entry_in, Shape, Shaped, without}
 use Rattle.buf_tree.specs.Rows.{IsDead, IsSpare}
@@ -80,18 +80,18 @@ none_under xs k e d i = false_from_ne_true _ (λ u. go (filter (is_under k) xs) 
     go (z ∷ zs) f j = let bad : ◌≡◌ {A = List ℕ} (z.place ∷ map (λ (d : Cell). d.place) zs) [] = sym (ap (map (λ (d : Cell). d.place)) f) ∙ e in absurd (cc)
 
 -- a row that isn't spare is kept
-pub not_spare : (m : Store) (ys : List Cell) → Shape m ys → (c : Cell) → In c ys → (e : Entry Row) → get m c.place ≡ Some e → (IsSpare e → ⊥) → Keeps ys c
+pub not_spare : (m : Store) (ys : List Cell) → Shape m ys → (c : Cell) → In c ys → (e : StoreRow Row) → get m c.place ≡ Some e → (IsSpare e → ⊥) → Keeps ys c
 not_spare m ys s c i e g n = go (map (λ (d : Cell). d.place) (filter (is_under (num c)) ys)) refl
   where
     entry : e ≡ entry_in ys c
     entry = (let a : Some e ≡ Some (entry_in ys c) = sym g ∙ get_of m ys s c i in cc)
 
     go : (qs : List ℕ) → map (λ (d : Cell). d.place) (filter (is_under (num c)) ys) ≡ qs → Keeps ys c
-    go [] f = inl (λ dead. n (sym (ap (λ (x : Entry Row). x.payload.is_open) (sym entry)) ∙ dead.0, ap (λ (x : Entry Row). x.payload.roles) entry ∙ dead.1, ap (λ (x : Entry Row). x.payload.covered) entry ∙ dead.2, ap (λ (x : Entry Row). x.children) entry ∙ f))
+    go [] f = inl (λ dead. n (sym (ap (λ (x : StoreRow Row). x.payload.is_open) (sym entry)) ∙ dead.0, ap (λ (x : StoreRow Row). x.payload.roles) entry ∙ dead.1, ap (λ (x : StoreRow Row). x.payload.covered) entry ∙ dead.2, ap (λ (x : StoreRow Row). x.children) entry ∙ f))
     go (q ∷ qs) f = inr (child_of ys (num c) q qs f)
 
 -- the row at the place is kept
-pub ends_kept : (m : Store) (xs ys : List Cell) (gone : List ℕ) → Shape m ys → (p : ℕ) (e : Entry Row) → get m p ≡ Some e → (IsSpare e → ⊥) → PurgedBut (Some p) xs ys gone → Purged xs ys gone
+pub ends_kept : (m : Store) (xs ys : List Cell) (gone : List ℕ) → Shape m ys → (p : ℕ) (e : StoreRow Row) → get m p ≡ Some e → (IsSpare e → ⊥) → PurgedBut (Some p) xs ys gone → Purged xs ys gone
 ends_kept m xs ys gone s p e g n h = record {
   leaves = h.leaves;
   tidy = λ c i. elim (cases_eq p c.place) [
@@ -104,7 +104,7 @@ ends_kept m xs ys gone s p e g n h = record {
     some_is a b q = cc
 
 -- a spare row goes
-module _ (m : Store) (ys : List Cell) (s : Shape m ys) (p : ℕ) (e : Entry Row) (g : get m p ≡ Some e) (spare : IsSpare e) where
+module _ (m : Store) (ys : List Cell) (s : Shape m ys) (p : ℕ) (e : StoreRow Row) (g : get m p ≡ Some e) (spare : IsSpare e) where
   pub the : (c : Cell) × In c ys × (c.place ≡ p) × (e ≡ entry_in ys c)
   the = held_in m ys s p e g
 
@@ -112,20 +112,20 @@ module _ (m : Store) (ys : List Cell) (s : Shape m ys) (p : ℕ) (e : Entry Row)
   c0 = the.0
 
   alone : (d : Cell) → In d ys → is_under (num c0) d ≡ false
-  alone = none_under ys (num c0) (ap (λ (x : Entry Row). x.children) (sym the.3) ∙ spare.3)
+  alone = none_under ys (num c0) (ap (λ (x : StoreRow Row). x.children) (sym the.3) ∙ spare.3)
 
   pub shape_less : Shape (unlinked m p) (without p ys)
   shape_less = subst (λ (q : ℕ). Shape (unlinked m q) (without q ys)) the.2 (shape_unlinked m ys s c0 the.1 alone)
 
   c0_dead : IsDead c0.row
   c0_dead = (
-    ap (λ (x : Entry Row). x.payload.is_open) (sym the.3) ∙ spare.0,
-    ap (λ (x : Entry Row). x.payload.roles) (sym the.3) ∙ spare.1,
-    ap (λ (x : Entry Row). x.payload.covered) (sym the.3) ∙ spare.2,
+    ap (λ (x : StoreRow Row). x.payload.is_open) (sym the.3) ∙ spare.0,
+    ap (λ (x : StoreRow Row). x.payload.roles) (sym the.3) ∙ spare.1,
+    ap (λ (x : StoreRow Row). x.payload.covered) (sym the.3) ∙ spare.2,
   )
 
   parent_place : parent_of m p ≡ place_for ys c0.row
-  parent_place = ap (option_and_then (λ (x : Entry Row). x.parent)) g ∙ ap (λ (x : Entry Row). x.parent) the.3
+  parent_place = ap (option_and_then (λ (x : StoreRow Row). x.parent)) g ∙ ap (λ (x : StoreRow Row). x.parent) the.3
 
   -- the row above it
   above_it : (c : Cell) → In c ys → is_under (num c) c0 ≡ true → parent_of m p ≡ Some c.place
@@ -233,7 +233,7 @@ module _ (m : Store) (ys : List Cell) (s : Shape m ys) (p : ℕ) (e : Entry Row)
     -- a serial more has gone
     pub leaves_less : ((k : ℕ) → In k gone → e.payload.serial < k) → Leaves xs (without p ys) (gone ++ e.payload.serial ∷ [])
     leaves_less low =
-        let f = ap (λ (x : Entry Row). x.payload.serial) the.3 in
+        let f = ap (λ (x : StoreRow Row). x.payload.serial) the.3 in
         subst (λ (k : ℕ). Leaves xs (without p ys) (gone ++ k ∷ [])) (sym f) (leaves_then (λ k i. let b = low k i in omega arith))
 
     goes : PurgedBut (Some p) xs ys gone → PurgedBut (parent_of m p) xs (without p ys) gone'
@@ -255,7 +255,7 @@ module _ (m : Store) (ys : List Cell) (s : Shape m ys) (p : ℕ) (e : Entry Row)
         some_is a b q = cc
 
     pub goes_on : PurgedBut (Some p) xs ys gone → PurgedBut (parent_of m p) xs (without p ys) (gone ++ e.payload.serial ∷ [])
-    goes_on h = subst (λ (k : ℕ). PurgedBut (parent_of m p) xs (without p ys) (gone ++ k ∷ [])) (sym (ap (λ (x : Entry Row). x.payload.serial) the.3)) (goes h)
+    goes_on h = subst (λ (k : ℕ). PurgedBut (parent_of m p) xs (without p ys) (gone ++ k ∷ [])) (sym (ap (λ (x : StoreRow Row). x.payload.serial) the.3)) (goes h)
 
 -- one place less
 pub one_less : (xs : List Cell) → CellsRise xs → ((a b : Cell) → In a xs → In b xs → a.place ≡ b.place → a ≡ b) → (c : Cell) → In c xs → length (without c.place xs) + 1 ≡ length xs
@@ -284,7 +284,7 @@ climb_start m g p s i t = record {
     some_is : (a b : ℕ) → Some a ≡ Some b → a ≡ b
     some_is a b q = cc
 
-module _ (m : Store) (s : Shaped m) (p : ℕ) (e : Entry Row) (is : get m p ≡ Some e) where
+module _ (m : Store) (s : Shaped m) (p : ℕ) (e : StoreRow Row) (is : get m p ≡ Some e) where
   pub cells_less : IsSpare e → cells (unlinked m p) ≡ without p (cells m)
   cells_less n = cells_is (unlinked m p) (without p (cells m)) (shape_less m (cells m) s p e is n)
 
@@ -293,7 +293,7 @@ module _ (m : Store) (s : Shaped m) (p : ℕ) (e : Entry Row) (is : get m p ≡ 
       let t = the m (cells m) s p e is n in
       ap (λ (zs : List Cell). length zs + 1) (cells_less n) ∙ subst (λ (q : ℕ). length (without q (cells m)) + 1 ≡ length (cells m)) t.2 (one_less (cells m) s.rising s.apart t.0 t.1)
 
-module _ (m0 m : Store) (g0 g : List ℕ) (p : ℕ) (e : Entry Row) (is : get m p ≡ Some e) (s0 : Shaped m0) (c : Climb m0 m (Some p) g0 g) where
+module _ (m0 m : Store) (g0 g : List ℕ) (p : ℕ) (e : StoreRow Row) (is : get m p ≡ Some e) (s0 : Shaped m0) (c : Climb m0 m (Some p) g0 g) where
   pub climb_step : IsSpare e → (g' : List ℕ) → g' ≡ g ++ e.payload.serial ∷ [] → Climb m0 (unlinked m p) (parent_of m p) g0 g'
   climb_step n g' f = record {
     shape = subst (λ (zs : List Cell). Shape (unlinked m p) zs) (sym (cells_less m c.shape p e is n)) (shape_less m (cells m) c.shape p e is n);
@@ -311,12 +311,12 @@ module _ (m0 m : Store) (g0 g : List ℕ) (p : ℕ) (e : Entry Row) (is : get m 
 pub climb_end : (m0 m : Store) (g0 g : List ℕ) → Climb m0 m None g0 g → Cleared m0 m g0 g
 climb_end m0 m g0 g c = record { shape = c.shape; left = (c.left.0, c.left.1, ends_at_none (cells m0) (cells m) c.left.0 c.left.2) }
 
-pub some_entry : (o : Option (Entry Row)) → IsSome o → (e : Entry Row) × (o ≡ Some e)
+pub some_entry : (o : Option (StoreRow Row)) → IsSome o → (e : StoreRow Row) × (o ≡ Some e)
 some_entry None h = absurd (false≢true h)
 some_entry (Some e) h = (e, refl)
 
 -- a purge that takes nothing out
-pub cleared_none : (m : Store) (p : ℕ) (g : List ℕ) → Shaped m → IsSome (get m p) → TidyBut (Some p) (cells m) → ((e : Entry Row) → get m p ≡ Some e → IsSpare e → ⊥) → Cleared m m g g
+pub cleared_none : (m : Store) (p : ℕ) (g : List ℕ) → Shaped m → IsSome (get m p) → TidyBut (Some p) (cells m) → ((e : StoreRow Row) → get m p ≡ Some e → IsSpare e → ⊥) → Cleared m m g g
 cleared_none m p g s i t n = let r = some_entry (get m p) i in climb_stop m m g g p r.0 r.1 s (climb_start m g p s i t) (n r.0 r.1)
 
 pub count_left : (a b c d e f : ℕ) → a + 1 ≡ b → c ≡ a → d ≡ e + 1 → e + b ≡ f → d + c ≡ f

@@ -6,7 +6,7 @@ use Rattle.std.proofs.lemmas.Bool.{and_parts, and_from, false≢true, eqb-true, 
 use Rattle.gcx_base.specs.declared.steps.Step.{Step}
 use Rattle.gcx_model.specs.Tree.{Tree, Node, serial_of, above, within}
 use Rattle.gcx_model.specs.Paths.{any, hits, reach, first, head, matches}
-use Rattle.gcx_model.specs.Core.{RoleKind, Own, First, Whole}
+use Rattle.gcx_model.specs.Core.{RoleTarget, Own, First, Whole}
 use Rattle.gcx_model.specs.Held.{is_node, gives}
 use Rattle.gcx_model.specs.Nodes.{Rising}
 use Rattle.base_laws.proofs.Bools.{same_bools}
@@ -107,7 +107,7 @@ module _ (m : Store) (s : Shaped m) (T : Tree) (tree : TreeOf (cells m) T) where
           and_from (hits (serial_of a) tail n) f k.1 (e.1 (λ p x u w l. first_none (hits (serial_of a) tail) T.nodes n tree.rising is x (tree.told p x u) l))
 
   -- a statement reaches n where the steps from its base lead to a node from which the tail leads to n
-  pub gives_leads : (b n : Node) (rel tail : List Step) (k : RoleKind) → In b T.nodes → In n T.nodes → gives T (serial_of b) rel tail k n ≡ leads (ends_at T k tail n) (serial_of b) rel n
+  pub gives_leads : (b n : Node) (rel tail : List Step) (k : RoleTarget) → In b T.nodes → In n T.nodes → gives T (serial_of b) rel tail k n ≡ leads (ends_at T k tail n) (serial_of b) rel n
   gives_leads b n rel tail Own i j = sym (leads_same (serial_of b) rel n (tree_descends n j))
   gives_leads b n rel tail First i j = same_bools _ _ to from
     where
@@ -143,7 +143,7 @@ module _ (m : Store) (s : Shaped m) (T : Tree) (tree : TreeOf (cells m) T) where
           any_from (hits (serial_of b) (rel ++ tail)) y.0 (above n) y.1 (hits_join (serial_of b) rel tail x.0 y.0 (chain_within n x.0 y.0 d x.1 y.1 (hits_within (serial_of x.0) tail y.0 y.2)) p.1 y.2)
 
   -- and the base is above the node
-  pub gives_above : (b n : Node) (rel tail : List Step) (k : RoleKind) → In b T.nodes → In n T.nodes → gives T (serial_of b) rel tail k n ≡ true → In b (above n)
+  pub gives_above : (b n : Node) (rel tail : List Step) (k : RoleTarget) → In b T.nodes → In n T.nodes → gives T (serial_of b) rel tail k n ≡ true → In b (above n)
   gives_above b n rel tail k i j h =
       let x = any_in (λ (z : Node). ends_at T k tail n z && hits (serial_of b) rel z) (above n) (sym (gives_leads b n rel tail k i j) ∙ h) in
       let p = and_parts (ends_at T k tail n x.0) (hits (serial_of b) rel x.0) x.2 in
@@ -160,22 +160,22 @@ module _ (m : Store) (s : Shaped m) (T : Tree) (tree : TreeOf (cells m) T) where
     first_flag : Flags (tail_ends First n) (serial_of a) tail n flags → get_or flags 0 false ≡ hits (serial_of a) tail n
     first_flag f = f.each 0 (omega arith) ∙ leads_same (serial_of a) tail n (tree_descends n j)
 
-    pub ends_not : (k : RoleKind) → Flags (tail_ends k n) (serial_of a) (tail_steps k tail) n flags → get_or flags 0 false ≡ false → false ≡ ends_at T k tail n a
+    pub ends_not : (k : RoleTarget) → Flags (tail_ends k n) (serial_of a) (tail_steps k tail) n flags → get_or flags 0 false ≡ false → false ≡ ends_at T k tail n a
     ends_not Own f e = sym e ∙ own_flag f
     ends_not Whole f e = sym e ∙ f.each 0 (omega arith)
     ends_not First f e = sym (false_from_ne_true _ (λ h. false≢true (sym e ∙ first_flag f ∙ first_hits a n tail i j h)))
 
-    pub ends_own : (k : RoleKind) → k ≡ Own → Flags (tail_ends k n) (serial_of a) (tail_steps k tail) n flags → get_or flags 0 false ≡ true → true ≡ ends_at T k tail n a
+    pub ends_own : (k : RoleTarget) → k ≡ Own → Flags (tail_ends k n) (serial_of a) (tail_steps k tail) n flags → get_or flags 0 false ≡ true → true ≡ ends_at T k tail n a
     ends_own Own g f e = sym e ∙ own_flag f
     ends_own Whole g f e = absurd (cc)
     ends_own First g f e = absurd (cc)
 
-    pub ends_whole : (k : RoleKind) → k ≡ Whole → Flags (tail_ends k n) (serial_of a) (tail_steps k tail) n flags → get_or flags 0 false ≡ true → true ≡ ends_at T k tail n a
+    pub ends_whole : (k : RoleTarget) → k ≡ Whole → Flags (tail_ends k n) (serial_of a) (tail_steps k tail) n flags → get_or flags 0 false ≡ true → true ≡ ends_at T k tail n a
     ends_whole Whole g f e = sym e ∙ f.each 0 (omega arith)
     ends_whole Own g f e = absurd (cc)
     ends_whole First g f e = absurd (cc)
 
-    pub ends_first : (k : RoleKind) → k ≡ First → Flags (tail_ends k n) (serial_of a) (tail_steps k tail) n flags → get_or flags 0 false ≡ true → (b : Bool) → ((b ≡ true) ↔ NoneBefore (cells m) a n tail) → b ≡ ends_at T k tail n a
+    pub ends_first : (k : RoleTarget) → k ≡ First → Flags (tail_ends k n) (serial_of a) (tail_steps k tail) n flags → get_or flags 0 false ≡ true → (b : Bool) → ((b ≡ true) ↔ NoneBefore (cells m) a n tail) → b ≡ ends_at T k tail n a
     ends_first First g f e b h = ap (λ z. z && b) (sym e ∙ first_flag f) ∙ first_rows a n tail i j b h
     ends_first Own g f e b h = absurd (cc)
     ends_first Whole g f e b h = absurd (cc)

@@ -13,7 +13,7 @@ use Rattle.std.proofs.lemmas.Bool.{or_left, or_right, or_from, or_parts, eq-eqb}
 use Rattle.gcx_base.specs.declared.ids.Role.{Role}
 use Rattle.gcx_model.specs.Members.{In}
 use Rattle.gcx_model.specs.Paths.{head}
-use Rattle.node_store.specs.Rows.{Entry, parent_of, Rises, IsTree}
+use Rattle.node_store.specs.Rows.{StoreRow, parent_of, Rises, IsTree}
 use Rattle.buf_tree.specs.Row.{Row}
 use Rattle.buf_tree.specs.Shape.{Store, Cell, num, cells, at_serial, entry_in, Shape, Shaped}
 use Rattle.buf_tree.specs.View.{View, InUse, Innermost}
@@ -30,9 +30,9 @@ module _ (m : Store) (xs : List Cell) (p : ℕ) (s : Shaped m) (is : cells m ≡
   pub used : InUse xs p → IsSome (get m p)
   used u = subst (λ o. IsSome o) (sym (entry_at u.cell u.among u.place)) refl
 
-  pub row_at : (c : Cell) → In c xs → c.place ≡ p → (r : Row) → option_map (λ (e : Entry Row). e.payload) (get m p) ≡ Some r → c.row ≡ r
+  pub row_at : (c : Cell) → In c xs → c.place ≡ p → (r : Row) → option_map (λ (e : StoreRow Row). e.payload) (get m p) ≡ Some r → c.row ≡ r
   row_at c i e r h =
-      let same : Some c.row ≡ Some r = sym (ap (option_map (λ (x : Entry Row). x.payload)) (entry_at c i e)) ∙ h in
+      let same : Some c.row ≡ Some r = sym (ap (option_map (λ (x : StoreRow Row). x.payload)) (entry_at c i e)) ∙ h in
       cc
 
 pub innermost_used : (xs : List Cell) (p : ℕ) → Innermost xs p → InUse xs p
@@ -69,7 +69,7 @@ module _ (m : Store) (root : Option ℕ) (t : IsTree m root) where
       ]
 
       alone : parent_of m x.place ≡ None
-      alone = ap (option_and_then (λ (e : Entry Row). e.parent)) at ∙ ap (λ b. cond b None (option_map (λ (c : Cell). c.place) (at_serial x.row.parent (x ∷ xs)))) (eq-eqb (num x) 0 zero_num)
+      alone = ap (option_and_then (λ (e : StoreRow Row). e.parent)) at ∙ ap (λ b. cond b None (option_map (λ (c : Cell). c.place) (at_serial x.row.parent (x ∷ xs)))) (eq-eqb (num x) 0 zero_num)
 
       climb : (n : ℕ) → Rises m root n x.place → root ≡ Some x.place
       climb zero h = h

@@ -10,7 +10,7 @@ use Rattle.gcx_model.specs.Tree.{Tree, Node}
 use Rattle.base_laws.proofs.Bools.{same_bools}
 use Rattle.base_laws.proofs.Lists.{filter_few}
 use Rattle.tree_laws.proofs.Lists.{In, filter_same}
-use Rattle.node_store.specs.Rows.{Entry, changed_at, paid_by}
+use Rattle.node_store.specs.Rows.{StoreRow, changed_at, paid_by}
 use Rattle.buf_tree.specs.Row.{Row}
 use Rattle.buf_tree.specs.Rows.{untaken}
 use Rattle.buf_tree.specs.Shape.{Store, Cell, num, cells, Shaped, AtPlace}
@@ -147,7 +147,7 @@ module _ (s : Option SpreadView) (m0 : Store) (s0 : Shaped m0) (nest0 : Nested (
     recounts_used = used_there m w.counting.shape row.0 row.1 p row_place
 
     -- what the row at the place says
-    module _ (r : Row) (paid : option_map (λ (e : Entry Row). e.payload) (get m p) ≡ Some r) where
+    module _ (r : Row) (paid : option_map (λ (e : StoreRow Row). e.payload) (get m p) ≡ Some r) where
       is_row : row.0.row ≡ r
       is_row = cell_row m w.counting.shape row.0 row.1 p row_place r paid
 

@@ -6,7 +6,7 @@ use Rattle.std.specs.FinSet.{contains}
 use Rattle.std.proofs.lemmas.Bool.{or_left, true≢false, false≢true}
 use Rattle.gcx_model.specs.Members.{In}
 use Rattle.base_laws.proofs.Bools.{same_bools}
-use Rattle.node_store.specs.Rows.{Entry}
+use Rattle.node_store.specs.Rows.{StoreRow}
 use Rattle.buf_tree.specs.Recount.{KeptAbove}
 use Rattle.buf_tree.specs.Row.{Row}
 use Rattle.buf_tree.specs.Shape.{Store, Cell, cells, Shaped}
@@ -18,7 +18,7 @@ use Rattle.buf_tree.proofs.SeenHas.{seen_has}
 use Rattle.buf_tree.proofs.Spreading.{in_union, Upward, upward, spread_cell, from_above}
 
 -- c is the row seen at the place, and r that of the store
-module _ (m : Store) (shape : Shaped m) (s : Option SpreadView) (k p : ℕ) (c : Cell) (i : In c (seen_rows s (cells m))) (e : c.place ≡ p) (r : Row) (paid : option_map (λ (x : Entry Row). x.payload) (get m p) ≡ Some r) where
+module _ (m : Store) (shape : Shaped m) (s : Option SpreadView) (k p : ℕ) (c : Cell) (i : In c (seen_rows s (cells m))) (e : c.place ≡ p) (r : Row) (paid : option_map (λ (x : StoreRow Row). x.payload) (get m p) ≡ Some r) where
   up : Upward [] (cells m)
   up = upward (cells m) shape.rising shape.up
 

@@ -11,7 +11,7 @@ use Rattle.gcx_base.specs.declared.steps.Test.{Test}
 use Rattle.gcx_base.specs.declared.steps.Step.{Step}
 use Rattle.gcx_base.specs.Tests.{passes}
 use Rattle.tree_laws.proofs.Lists.{In}
-use Rattle.node_store.specs.Rows.{Entry, parent_of, prev_of, last_of, children_in}
+use Rattle.node_store.specs.Rows.{StoreRow, parent_of, prev_of, last_of, children_in}
 use Rattle.buf_tree.specs.Row.{Row}
 use Rattle.buf_tree.specs.Shape.{Store, Cell, num, cells, at_place, Shaped}
 use Rattle.buf_tree.specs.Walk.{Nested, Inside, Deeper, IsLast, JustBefore, BeforeIn, Found, Back, serial_in, low_at, rows_behind}
@@ -27,9 +27,9 @@ module _ (m : Store) (s : Shaped m) where
   pub same_place : (c d : Cell) (p : ℕ) → In c xs → In d xs → c.place ≡ p → d.place ≡ p → c ≡ d
   same_place c d p i j e f = s.apart c d i j (e ∙ sym f)
 
-  pub cell_row : (c : Cell) → In c xs → (p : ℕ) → c.place ≡ p → (r : Row) → option_map (λ (e : Entry Row). e.payload) (get m p) ≡ Some r → c.row ≡ r
+  pub cell_row : (c : Cell) → In c xs → (p : ℕ) → c.place ≡ p → (r : Row) → option_map (λ (e : StoreRow Row). e.payload) (get m p) ≡ Some r → c.row ≡ r
   cell_row c i p e r h =
-      let same : Some c.row ≡ Some r = sym (ap (option_map (λ (x : Entry Row). x.payload)) (get_of m xs s c i)) ∙ ap (λ k. option_map (λ (x : Entry Row). x.payload) (get m k)) e ∙ h in
+      let same : Some c.row ≡ Some r = sym (ap (option_map (λ (x : StoreRow Row). x.payload)) (get_of m xs s c i)) ∙ ap (λ k. option_map (λ (x : StoreRow Row). x.payload) (get m k)) e ∙ h in
       cc
 
   pub serial_at_place : (c : Cell) → In c xs → (p : ℕ) → c.place ≡ p → serial_in xs (at_place p xs) ≡ num c

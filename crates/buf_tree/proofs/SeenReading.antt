@@ -10,7 +10,7 @@ use Rattle.gcx_base.specs.declared.steps.Step.{Step}
 use Rattle.gcx_model.specs.declared.item.Off.{Off}
 use Rattle.gcx_model.specs.Members.{In}
 use Rattle.gcx_model.specs.Paths.{head}
-use Rattle.node_store.specs.Rows.{Entry, IsTree}
+use Rattle.node_store.specs.Rows.{StoreRow, IsTree}
 use Rattle.node_store.specs.declared.store.Place.{Place}
 use Rattle.buf_tree.specs.Row.{Row}
 use Rattle.buf_tree.specs.Shape.{Store, Cell, num, cells, at_place, AtPlace, Shaped}
@@ -129,7 +129,7 @@ module _ (m : Store) (shape : Shaped m) (s : Option SpreadView) (rs : List Cell)
       used m (cells m) p shape refl (record { cell = x.0; among = x.1; place = ap (λ (z : Cell). z.place) x.2 ∙ u.place })
 
   -- the row seen at the place is that of the store, with its roles from above
-  pub row_seen : (p : ℕ) (c : Cell) → In c rs → c.place ≡ p → (r : Row) → option_map (λ (e : Entry Row). e.payload) (get m p) ≡ Some r
+  pub row_seen : (p : ℕ) (c : Cell) → In c rs → c.place ≡ p → (r : Row) → option_map (λ (e : StoreRow Row). e.payload) (get m p) ≡ Some r
       → (d : Cell) × (spread_cell (is_spread_in s) (seen_rows s (cells m)) d ≡ c) × (d.row ≡ r)
   row_seen p c i e r h =
       let x = seen_from s (cells m) up c (subst (λ (zs : List Cell). In c zs) (sym is) i) in
@@ -138,21 +138,21 @@ module _ (m : Store) (shape : Shaped m) (s : Option SpreadView) (rs : List Cell)
   at_seen : (p : ℕ) (c : Cell) → In c rs → c.place ≡ p → at_place p rs ≡ Some c
   at_seen p c i e = ap (λ k. at_place k rs) (sym e) ∙ at_place_is rs (subst (λ (zs : List Cell). (a b : Cell) → In a zs → In b zs → a.place ≡ b.place → a ≡ b) is (seen_apart s (cells m) up shape.apart)) c i
 
-  pub num_seen : (p : ℕ) (c : Cell) → In c rs → c.place ≡ p → (r : Row) → option_map (λ (e : Entry Row). e.payload) (get m p) ≡ Some r → num c ≡ r.serial
+  pub num_seen : (p : ℕ) (c : Cell) → In c rs → c.place ≡ p → (r : Row) → option_map (λ (e : StoreRow Row). e.payload) (get m p) ≡ Some r → num c ≡ r.serial
   num_seen p c i e r h = let x = row_seen p c i e r h in ap num (sym x.1) ∙ ap (λ (q : Row). q.serial) x.2
 
-  pub serial_seen : (p : ℕ) → InUse rs p → (r : Row) → option_map (λ (e : Entry Row). e.payload) (get m p) ≡ Some r → r.serial ≡ serial_at p rs
+  pub serial_seen : (p : ℕ) → InUse rs p → (r : Row) → option_map (λ (e : StoreRow Row). e.payload) (get m p) ≡ Some r → r.serial ≡ serial_at p rs
   serial_seen p u r h = sym (num_seen p u.cell u.among u.place r h) ∙ sym (ap num_in (at_seen p u.cell u.among u.place))
 
   pub serials_seen : (r : Option Place) → SerialFound rs r
   serials_seen None = tt
   serials_seen (Some p) = λ c i e. ap num_in (at_seen p.0 c i e)
 
-  pub open_seen : (p : ℕ) (c : Cell) → In c rs → c.place ≡ p → (r : Row) → option_map (λ (e : Entry Row). e.payload) (get m p) ≡ Some r → not r.is_open ≡ not c.row.is_open
+  pub open_seen : (p : ℕ) (c : Cell) → In c rs → c.place ≡ p → (r : Row) → option_map (λ (e : StoreRow Row). e.payload) (get m p) ≡ Some r → not r.is_open ≡ not c.row.is_open
   open_seen p c i e r h = let x = row_seen p c i e r h in ap (λ (q : Row). not q.is_open) (sym x.2) ∙ ap (λ (z : Cell). not z.row.is_open) x.1
 
   -- where it is known whether it has the base's own role
-  pub waits_seen : (o : Off) (p : ℕ) (c : Cell) → In c rs → c.place ≡ p → (r : Row) → option_map (λ (e : Entry Row). e.payload) (get m p) ≡ Some r → (b : Bool) → AtPlace (seen_rows s (cells m)) p (λ d. b ≡ contains d.row.roles o.own.0)
+  pub waits_seen : (o : Off) (p : ℕ) (c : Cell) → In c rs → c.place ≡ p → (r : Row) → option_map (λ (e : StoreRow Row). e.payload) (get m p) ≡ Some r → (b : Bool) → AtPlace (seen_rows s (cells m)) p (λ d. b ≡ contains d.row.roles o.own.0)
       → ((b || contains r.signed o.own.0) && not (contains r.signed o.role.0)) ≡ is_waiting c.row o
   waits_seen o p c i e r h b law =
       let x = row_seen p c i e r h in

@@ -7,7 +7,7 @@ use Rattle.std.specs.Cmp.{nat_cmp_total, unsigned_tied}
 use Rattle.std.specs.FinMap.{empty, get, keys, insert, get-empty, get-insert, contains_key-keys, len, len-empty, len-insert, same_map, nat_cmp-IsAntisymmetric}
 use Rattle.std.proofs.lemmas.Bool.{or_cases, false≢true, eqb-true, eq-eqb, ne_eqb, cases_eq, ltb-true, ltb-false}
 use Rattle.tree_laws.proofs.Lists.{In}
-use Rattle.node_store.specs.Rows.{Entry}
+use Rattle.node_store.specs.Rows.{StoreRow}
 use Rattle.buf_tree.specs.Row.{Row}
 use Rattle.buf_tree.specs.Shape.{Store, Cell, num, put, put_entry, gather, cells, CellsRise, Above, at_place, at_serial, entry_in, Shape, Shaped}
 
@@ -84,13 +84,13 @@ put_rising c (x ∷ xs) r = go (ltb (num c) (num x)) (ltb (num x) (num c)) refl 
 -- ---- the list that a store holds
 
 abbrev Held_by : Store → Cell → Type 0
-Held_by m c = (e : Entry Row) × (get m c.place ≡ Some e) × (e.payload ≡ c.row)
+Held_by m c = (e : StoreRow Row) × (get m c.place ≡ Some e) × (e.payload ≡ c.row)
 
 gather_rising : (m : Store) (ps : List ℕ) → CellsRise (gather m ps)
 gather_rising m [] = tt
 gather_rising m (p ∷ ps) = go (get m p) (gather_rising m ps)
   where
-    go : (o : Option (Entry Row)) → CellsRise (gather m ps) → CellsRise (put_entry p o (gather m ps))
+    go : (o : Option (StoreRow Row)) → CellsRise (gather m ps) → CellsRise (put_entry p o (gather m ps))
     go None r = r
     go (Some e) r = put_rising (record { place = p; row = e.payload }) (gather m ps) r
 
@@ -98,25 +98,25 @@ gather_in : (m : Store) (ps : List ℕ) (c : Cell) → In c (gather m ps) → He
 gather_in m [] c h = absurd h
 gather_in m (p ∷ ps) c h = go (get m p) refl (gather_in m ps c) h
   where
-    go : (o : Option (Entry Row)) → get m p ≡ o → (In c (gather m ps) → Held_by m c) → In c (put_entry p o (gather m ps)) → Held_by m c
+    go : (o : Option (StoreRow Row)) → get m p ≡ o → (In c (gather m ps) → Held_by m c) → In c (put_entry p o (gather m ps)) → Held_by m c
     go None e ih k = ih k
     go (Some d) e ih k = elim (put_in (record { place = p; row = d.payload }) (gather m ps) c k) [
       | inl f ↦ (d, subst (λ (x : Cell). get m x.place ≡ Some d) f e, ap (λ (x : Cell). x.row) f)
       | inr i ↦ ih i
     ]
 
-gather_has : (m : Store) (ps : List ℕ) (p : ℕ) (d : Entry Row) → get m p ≡ Some d → In p ps → (y : Cell) × In y (gather m ps) × (num y ≡ d.payload.serial)
+gather_has : (m : Store) (ps : List ℕ) (p : ℕ) (d : StoreRow Row) → get m p ≡ Some d → In p ps → (y : Cell) × In y (gather m ps) × (num y ≡ d.payload.serial)
 gather_has m [] p d e i = absurd i
 gather_has m (q ∷ ps) p d e i = go (get m q) refl (gather_has m ps p d e) i
   where
-    go : (o : Option (Entry Row)) → get m q ≡ o → (In p ps → (y : Cell) × In y (gather m ps) × (num y ≡ d.payload.serial)) → In p (q ∷ ps) → (y : Cell) × In y (put_entry q o (gather m ps)) × (num y ≡ d.payload.serial)
+    go : (o : Option (StoreRow Row)) → get m q ≡ o → (In p ps → (y : Cell) × In y (gather m ps) × (num y ≡ d.payload.serial)) → In p (q ∷ ps) → (y : Cell) × In y (put_entry q o (gather m ps)) × (num y ≡ d.payload.serial)
     go None f ih (inl g) = let bad : None ≡ Some d = sym f ∙ ap (get m) g ∙ e in absurd (cc)
     go None f ih (inr k) = ih k
     go (Some h) f ih (inl g) =
         let same : Some h ≡ Some d = sym f ∙ ap (get m) g ∙ e in
         let is : h ≡ d = cc in
         let r = put_has (record { place = q; row = h.payload }) (gather m ps) in
-        (r.0, r.1, r.2 ∙ ap (λ (x : Entry Row). x.payload.serial) is)
+        (r.0, r.1, r.2 ∙ ap (λ (x : StoreRow Row). x.payload.serial) is)
     go (Some h) f ih (inr k) =
         let r = ih k in
         (r.0, put_keeps (record { place = q; row = h.payload }) (gather m ps) r.0 r.1, r.2)
@@ -128,7 +128,7 @@ key_in (q ∷ ps) p h = elim (or_cases (eq_by_cmp nat_cmp p q) (list_any (eq_by_
   | inr k ↦ inr (key_in ps p k)
 ]
 
-key_of : (m : Store) (p : ℕ) (d : Entry Row) → get m p ≡ Some d → In p (keys m)
+key_of : (m : Store) (p : ℕ) (d : StoreRow Row) → get m p ≡ Some d → In p (keys m)
 key_of m p d e = key_in (keys m) p (sym (contains_key-keys m p) ∙ ap is_some e)
 
 -- ---- places
@@ -165,7 +165,7 @@ at_serial_is (x ∷ xs) r c k (inr i) f = rw (ne_eqb (num x) k (λ e. let l = r.
 -- ---- the list is the store's, and no other is
 
 module _ (m : Store) (xs : List Cell) (s : Shape m xs) where
-  pub held_in : (p : ℕ) (e : Entry Row) → get m p ≡ Some e → (c : Cell) × In c xs × (c.place ≡ p) × (e ≡ entry_in xs c)
+  pub held_in : (p : ℕ) (e : StoreRow Row) → get m p ≡ Some e → (c : Cell) × In c xs × (c.place ≡ p) × (e ≡ entry_in xs c)
   held_in p e g = go (at_place p xs) refl
     where
       go : (o : Option Cell) → at_place p xs ≡ o → (c : Cell) × In c xs × (c.place ≡ p) × (e ≡ entry_in xs c)
@@ -177,7 +177,7 @@ module _ (m : Store) (xs : List Cell) (s : Shape m xs) where
           let is : Some e ≡ Some (entry_in xs c) = sym g ∙ s.gets p ∙ ap (option_map (entry_in xs)) f in
           (c, a.0, a.1, some_is _ _ is)
         where
-          some_is : (x y : Entry Row) → Some x ≡ Some y → x ≡ y
+          some_is : (x y : StoreRow Row) → Some x ≡ Some y → x ≡ y
           some_is x y h = cc
 
   pub get_of : (c : Cell) → In c xs → get m c.place ≡ Some (entry_in xs c)
@@ -191,7 +191,7 @@ module _ (m : Store) (xs : List Cell) (s : Shape m xs) where
       fwd c i =
           let h = gather_in m (keys m) c i in
           let r = held_in c.place h.0 h.1 in
-          let rows : r.0.row ≡ c.row = sym (ap (λ (x : Entry Row). x.payload) r.3) ∙ h.2 in
+          let rows : r.0.row ≡ c.row = sym (ap (λ (x : StoreRow Row). x.payload) r.3) ∙ h.2 in
           let places : r.0.place ≡ c.place = r.2 in
           let same : r.0 ≡ c = λ t. record { place = places t; row = rows t } in
           subst (λ (x : Cell). In x xs) same r.1
@@ -225,7 +225,7 @@ module _ (xs : List Cell) where
 
   len_built : (cs : List Cell) → CellsRise cs → Apart cs → len (built cs) ≡ length cs
   unfolding built
-  len_built [] r a = len-empty nat_cmp (Entry Row)
+  len_built [] r a = len-empty nat_cmp (StoreRow Row)
   len_built (c ∷ cs) r a =
       let none : is_some (get (built cs) c.place) ≡ false =
       ap is_some (get_built cs c.place ∙ ap (option_map (entry_in xs)) (at_place_none c.place cs (λ z i e. let l = r.0 z i in let m = ap num (a z c (inr i) (inl refl) e) in absurd (omega arith)))) in

@@ -8,7 +8,7 @@ use Rattle.gcx_model.specs.Placed.{offs_in}
 use Rattle.gcx_model.specs.Past.{Past, past_acted}
 use Rattle.gcx_model.specs.Run.{Offed}
 use Rattle.tree_laws.proofs.Lists.{In}
-use Rattle.node_store.specs.Rows.{Entry, changed_at, paid_by}
+use Rattle.node_store.specs.Rows.{StoreRow, changed_at, paid_by}
 use Rattle.buf_tree.specs.Row.{Row}
 use Rattle.buf_tree.specs.declared.ahead.Ahead.{Ahead}
 use Rattle.buf_tree.specs.Calls.{Signed}
@@ -36,7 +36,7 @@ module _ (s : Option SpreadView) (m0 : Store) (g0 : List ℕ) (waiting : List Ah
   there_due = spread.there m0 (changed_at (paid_by (signed_for off.role.0)) p m0) (view_of s (cells m0) g0 waiting nodes taken0 most0 loans0) p off refl refl g0 cap held nodes kept cov refl due
 
   -- it lies as deep as contracts see it
-  pub level_due : (r : Row) → option_map (λ (e : Entry Row). e.payload) (get m0 p) ≡ Some r → r.level ≡ due.cell.row.level
+  pub level_due : (r : Row) → option_map (λ (e : StoreRow Row). e.payload) (get m0 p) ≡ Some r → r.level ≡ due.cell.row.level
   level_due r e =
       let x = seen_from s (cells m0) (upward (cells m0) kept.shape.rising kept.shape.up) due.cell due.among in
       ap (λ (z : Row). z.level) (sym (row_at m0 (cells m0) p kept.shape refl x.0 x.1 (ap (λ (z : Cell). z.place) x.2 ∙ due.place) r e)) ∙ ap (λ (z : Cell). z.row.level) x.2

@@ -16,7 +16,7 @@ use Rattle.gcx_model.specs.Tree.{Root, serial_of, opening}
 use Rattle.gcx_base.specs.Tests.{passes}
 use Rattle.gcx_model.specs.Paths.{any, all, lies, hits, matches, first}
 use Rattle.gcx_model.specs.Members.{count}
-use Rattle.gcx_model.specs.Core.{RoleKind, Own, First, Whole, BodyTree, OffTree, PlanTree}
+use Rattle.gcx_model.specs.Core.{RoleTarget, Own, First, Whole, BodyTree, OffTree, PlanTree}
 use Rattle.gcx_model.specs.Cores.{Good}
 use Rattle.gcx_model.specs.Placed.{Placed}
 use Rattle.gcx_model.specs.Held.{path_of, statement_of, is_node, gives, given, roles_given, signed, all_signed, on_off, live, roles_live}
@@ -48,13 +48,13 @@ no_test AnyNode = refl
 no_hit : (n : ℕ) (s : Step) (rest : List Step) → hits n (s ∷ rest) Root ≡ false
 no_hit n s rest = or_from _ _ (ap (λ b. (b && lies s.axis n Root) && hits 0 rest Root) (no_test s.test)) refl
 
-none_given : (s : Step) (p tail : List Step) (k : RoleKind) → gives opening 0 (s ∷ p) tail k Root ≡ false
+none_given : (s : Step) (p tail : List Step) (k : RoleTarget) → gives opening 0 (s ∷ p) tail k Root ≡ false
 none_given s p tail Own = no_hit 0 s p
 none_given s p tail First = ap (λ b. any (λ j. is_node 0 (first opening (serial_of j) tail)) (cond b (Root ∷ []) [])) (no_hit 0 s p)
 none_given s p tail Whole = or_from _ _ (no_hit 0 s (p ++ tail)) refl
 
 -- where the role is given to the document node, its base is that node, which isn't signed
-base_waits : (o : OffTree) (p rel tail : List Step) (k : RoleKind) → gives opening 0 (p ++ rel) tail k Root ≡ true → all (λ m. not (gives opening (serial_of m) rel tail k Root) || signed [] o m) (matches opening 0 p) ≡ false
+base_waits : (o : OffTree) (p rel tail : List Step) (k : RoleTarget) → gives opening 0 (p ++ rel) tail k Root ≡ true → all (λ m. not (gives opening (serial_of m) rel tail k Root) || signed [] o m) (matches opening 0 p) ≡ false
 base_waits o [] rel tail k h = ap (λ b. (not b || false) && true) h
 base_waits o (s ∷ p) rel tail k h = absurd (true≢false (sym h ∙ none_given s (p ++ rel) tail k))
 

@@ -10,7 +10,7 @@ use Rattle.gcx_model.specs.declared.item.Off.{Off}
 use Rattle.gcx_model.specs.Tree.{Tree, Node, serial_of}
 use Rattle.base_laws.proofs.Members.{in_map, from_map, map_same}
 use Rattle.tree_laws.proofs.Lists.{In, In-append, In-filter, In-kept, any_in, filter_same}
-use Rattle.node_store.specs.Rows.{Entry, changed_at, paid_by, unlinked}
+use Rattle.node_store.specs.Rows.{StoreRow, changed_at, paid_by, unlinked}
 use Rattle.buf_tree.specs.Row.{Row}
 use Rattle.buf_tree.specs.Rows.{IsSpare, untaken}
 use Rattle.buf_tree.specs.Shape.{Store, Cell, num, cells, is_under, entry_in, Shape, Shaped, with_at}
@@ -297,7 +297,7 @@ module _ (m0 : Store) (s0 : Shaped m0) (nest0 : Nested (cells m0)) (off : Off) (
         let b = inner.block h i0 inner.behind (omega arith) in
         omega arith
 
-    stays : (e : Entry Row) → get m p ≡ Some e → (IsSpare e → ⊥) → Sweeping m0 m off others c (num h) (num h) g0 g n
+    stays : (e : StoreRow Row) → get m p ≡ Some e → (IsSpare e → ⊥) → Sweeping m0 m off others c (num h) (num h) g0 g n
     stays e is not_ = record {
       lost = w.lost;
       left = w.left;
@@ -317,7 +317,7 @@ module _ (m0 : Store) (s0 : Shaped m0) (nest0 : Nested (cells m0)) (off : Off) (
       right = w.right;
     }
 
-    goes : (e : Entry Row) → get m p ≡ Some e → IsSpare e → Sweeping m0 (unlinked m p) off others c (num h) (num h) g0 (g ++ e.payload.serial ∷ []) n
+    goes : (e : StoreRow Row) → get m p ≡ Some e → IsSpare e → Sweeping m0 (unlinked m p) off others c (num h) (num h) g0 (g ++ e.payload.serial ∷ []) n
     goes e is spare = record {
       lost = w.lost;
       left = w.left ++ e.payload.serial ∷ [];
@@ -349,7 +349,7 @@ module _ (m0 : Store) (s0 : Shaped m0) (nest0 : Nested (cells m0)) (off : Off) (
         row_is = w.shape.apart row.0 d row.1 j (row.2 ∙ sym at)
 
         serial : e.payload.serial ≡ num h
-        serial = ap (λ (x : Entry Row). x.payload.serial) row.3 ∙ ap num row_is ∙ same
+        serial = ap (λ (x : StoreRow Row). x.payload.serial) row.3 ∙ ap num row_is ∙ same
 
         above : (x : Cell) → In x (cells m) → (num h ≤ num x) ⊎ (num x < num c) → is_under (num x) row.0 ≡ true → ⊥
         above x v b u =
@@ -363,7 +363,7 @@ module _ (m0 : Store) (s0 : Shaped m0) (nest0 : Nested (cells m0)) (off : Off) (
             ]
 
     -- what `drop_spare` leaves
-    pub shed : (e : Entry Row) → get m p ≡ Some e → (m' : Store) (g' : List ℕ) (len0 len : ℕ) → Shed e m m' p g g' len0 len → Sweeping m0 m' off others c (num h) (num h) g0 g' n
+    pub shed : (e : StoreRow Row) → get m p ≡ Some e → (m' : Store) (g' : List ℕ) (len0 len : ℕ) → Shed e m m' p g g' len0 len → Sweeping m0 m' off others c (num h) (num h) g0 g' n
     shed e is m' g' len0 len (inl s) = subst (λ (z : Store). Sweeping m0 z off others c (num h) (num h) g0 g' n) (sym s.1) (subst (λ (z : List ℕ). Sweeping m0 (unlinked m p) off others c (num h) (num h) g0 z n) (sym s.2) (goes e is s.0))
     shed e is m' g' len0 len (inr s) = subst (λ (z : Store). Sweeping m0 z off others c (num h) (num h) g0 g' n) (sym s.1) (subst (λ (z : List ℕ). Sweeping m0 m off others c (num h) (num h) g0 z n) (sym s.2) (stays e is s.0))
 

@@ -9,7 +9,7 @@ use Rattle.gcx_model.specs.Tree.{Tree, Node}
 use Rattle.base_laws.proofs.Lists.{filter_few}
 use Rattle.tree_laws.proofs.Lists.{In}
 use Rattle.node_store.specs.declared.store.Place.{Place}
-use Rattle.node_store.specs.Rows.{Entry, changed_at, paid_by}
+use Rattle.node_store.specs.Rows.{StoreRow, changed_at, paid_by}
 use Rattle.buf_tree.specs.Row.{Row}
 use Rattle.buf_tree.specs.Rows.{untaken}
 use Rattle.buf_tree.specs.Shape.{Store, Cell, num, cells, Shaped}
@@ -48,7 +48,7 @@ pub record Turned (m0 m m' : Store) (p count : ℕ) : Type 0 where
   pub some : 0 < length (cells m')
 
 -- a row went, or none
-shed_count : (e : Entry Row) (m m' : Store) (p : ℕ) (g g' : List ℕ) (len0 len : ℕ) → Shaped m → get m p ≡ Some e → Shed e m m' p g g' len0 len → len + length (cells m') ≡ len0 + length (cells m)
+shed_count : (e : StoreRow Row) (m m' : Store) (p : ℕ) (g g' : List ℕ) (len0 len : ℕ) → Shaped m → get m p ≡ Some e → Shed e m m' p g g' len0 len → len + length (cells m') ≡ len0 + length (cells m)
 shed_count e m m' p g g' len0 len s is (inl h) = let a = length_less m s p e is h.0 in let b = ap (λ (z : Store). length (cells z)) h.1 in let c = h.3 in omega arith
 shed_count e m m' p g g' len0 len s is (inr h) = let b = ap (λ (z : Store). length (cells z)) h.1 in let c = h.3 in omega arith
 
@@ -169,8 +169,8 @@ module _ (m0 : Store) (s0 : Shaped m0) (nest0 : Nested (cells m0)) (off : Off) (
         block x i l b = let a = s.walk.4 in s.block x i l (omega arith)
 
         -- then it may go, and the row before it is next
-        module _ (m2 : Store) (g2 : List ℕ) (len0 len : ℕ) (sheds : (e : Entry Row) → get m' p ≡ Some e → Shed e m' m2 p g g2 len0 len) where
-          entry : (e : Entry Row) × (get m' p ≡ Some e)
+        module _ (m2 : Store) (g2 : List ℕ) (len0 len : ℕ) (sheds : (e : StoreRow Row) → get m' p ≡ Some e → Shed e m' m2 p g g2 len0 len) where
+          entry : (e : StoreRow Row) × (get m' p ≡ Some e)
           entry = some_entry (get m' p) turned.used
 
           after : Sweeping m0 m2 off others s.base (num h) (num h) g0 g2 (n + r)

@@ -81,7 +81,7 @@ in_If i cond this other e = ap (λ z. item_offs (item_tree z)) e ∙ ap item_off
 pub in_Off : (i : Item) (off : Off) → i ≡ item.Off off → item_offs (item_tree i) ≡ off_tree off ∷ []
 in_Off i off e = ap (λ z. item_offs (item_tree z)) e ∙ ap item_offs (fold_Off off)
   where
-    fold_Off : (off : Off) → item_tree (item.Off off) ≡ tree.Off (off_tree off)
+    fold_Off : (off : Off) → item_tree (item.Off off) ≡ tree.SignOff (off_tree off)
     fold_Off off = search (rules, item_lemmas)
 
 -- ---- the table

@@ -8,7 +8,7 @@ use Rattle.gcx_model.specs.declared.item.Off.{Off}
 use Rattle.gcx_model.specs.ItemView.{off_tree}
 use Rattle.gcx_model.specs.Tree.{Tree, Node, Root, Under, serial_of, above}
 use Rattle.gcx_model.specs.Paths.{any, hits, first, head, matches}
-use Rattle.gcx_model.specs.Core.{RoleKind, Own, First, Whole}
+use Rattle.gcx_model.specs.Core.{RoleTarget, Own, First, Whole}
 use Rattle.gcx_model.specs.Held.{is_node, gives}
 use Rattle.gcx_model.specs.Nodes.{Rising as NodesRising}
 use Rattle.base_laws.proofs.Members.{head_in}
@@ -56,7 +56,7 @@ module _ (k : ℕ) (n : Node) (low : serial_of n < k) where
         let e = x.2 in
         omega arith
 
-    gives_there : (m : ℕ) (rel tail : List Step) (kind : RoleKind) → gives T m rel tail kind n ≡ true → gives U m rel tail kind n ≡ true
+    gives_there : (m : ℕ) (rel tail : List Step) (kind : RoleTarget) → gives T m rel tail kind n ≡ true → gives U m rel tail kind n ≡ true
     gives_there m rel tail Own h = h
     gives_there m rel tail Whole h = h
     gives_there m rel tail First h =
@@ -67,7 +67,7 @@ module _ (k : ℕ) (n : Node) (low : serial_of n < k) where
         (first_there (hits (serial_of j.0) tail) T.nodes U.nodes rt ru u j.2)
 
     -- nor is what a statement reaches before its base
-    gives_low : Descends n → (m : ℕ) (rel tail : List Step) (kind : RoleKind) → gives T m rel tail kind n ≡ true → m ≤ serial_of n
+    gives_low : Descends n → (m : ℕ) (rel tail : List Step) (kind : RoleTarget) → gives T m rel tail kind n ≡ true → m ≤ serial_of n
     gives_low d m rel tail Own h = within_low n m d (hits_within m rel n h)
     gives_low d m rel tail Whole h =
         let j = any_in (hits m (rel ++ tail)) (above n) h in

@@ -6,7 +6,7 @@ use Rattle.std.proofs.Math.Seq.{drop-append_seam}
 use Rattle.gcx_base.specs.declared.ids.Role.{Role}
 use Rattle.gcx_base.specs.declared.kind.Kind.{Kind}
 use Rattle.gcx_base.specs.declared.kind.Kind.TheVariants.{Document, Element, Text}
-use Rattle.gcx_model.specs.Tree.{Tree, Token, Node, Under, Start, Chars, grow}
+use Rattle.gcx_model.specs.Tree.{Tree, TreeToken, Node, Under, Start, Chars, grow}
 use Rattle.gcx_model.specs.Growth.{may_come}
 use Rattle.gcx_model.specs.Held.{roles_given, roles_taken}
 use Rattle.gcx_model.specs.Past.{Past, past_grown, token_for, IsNode}
@@ -53,16 +53,16 @@ opened_from v w q at kind roles n given ahead c e f = record {
   spread = c.spread;
 }
 
-pub left_given : (past : Past) (t : Token) (given ahead : List Role) → GivenTo past t given ahead → LeftTo past t (new_roles given ahead)
+pub left_given : (past : Past) (t : TreeToken) (given ahead : List Role) → GivenTo past t given ahead → LeftTo past t (new_roles given ahead)
 left_given past t given ahead g n e = λ z. from_list {R = nat_cmp} (less ((g n e).0 z) ((g n e).1 z))
 
-pub may_open_with : (v : View) (t : Token) (given ahead : List Role) (roles : FinSet nat_cmp) → roles ≡ new_roles given ahead → MayOpen v t given ahead → MayOpenWith v t roles
+pub may_open_with : (v : View) (t : TreeToken) (given ahead : List Role) (roles : FinSet nat_cmp) → roles ≡ new_roles given ahead → MayOpen v t given ahead → MayOpenWith v t roles
 may_open_with v t given ahead roles e (inl n) = inl n
 may_open_with v t given ahead roles e (inr x) = inr (x.0, x.1, x.2, subst (λ (s : FinSet nat_cmp). LeftTo x.0 t s) (sym e) (left_given x.0 t given ahead x.3))
 
 module _ (v u : View) (q : ℕ) (at : Option ℕ) (kind : Kind) (roles : FinSet nat_cmp) (i : Innermost v.rows q) (here : at_place q v.rows ≡ Some i.cell) (k : IsNode kind) (n : ℕ) (c : OpenedWith v u q at kind roles n) where
   module _ (past : Past) (h : StandsFor v past) (m : may_come (token_for kind) past.tree ≡ true) (left : LeftTo past (token_for kind) roles) where
-    abbrev t : Token
+    abbrev t : TreeToken
     t = token_for kind
 
     top : (a : Node) × (past.tree.at ≡ Some a)

@@ -13,7 +13,7 @@ use Rattle.gcx_model.specs.Paths.{any}
 use Rattle.tree_laws.proofs.Lists.{In, In-append, In-filter, In-kept, filter_none, filter_same, any_in, any_from, In-reversed, In-reverse}
 use Rattle.tree_laws.specs.Departing as trace
 use Rattle.tree_laws.proofs.Departures.{falling_same}
-use Rattle.node_store.specs.Rows.{Entry, changed_at, paid_by}
+use Rattle.node_store.specs.Rows.{StoreRow, changed_at, paid_by}
 use Rattle.buf_tree.specs.Row.{Row}
 use Rattle.buf_tree.specs.Rows.{untaken}
 use Rattle.buf_tree.specs.Shape.{Store, Cell, num, cells, CellsRise, is_under, entry_in, Shape, Shaped, with_at}
@@ -318,8 +318,8 @@ swept_cleared m0 m1 m2 p loses k g0 g1 g2 res w c =
 
 -- a statement that reaches its base alone
 pub own_swept : (m m' : Store) (p k : ℕ) (c : Cell) (loses : Cell → Bool) (g0 : List ℕ) (res : ℕ) → Shaped m → Tidy (cells m) → In c (cells m) → c.place ≡ p → ((d : Cell) → In d (cells m) → (loses d ≡ true) ↔ ((c ≡ d) × (set.contains d.row.roles k ≡ true)))
-    → ((e : Entry Row) → get m p ≡ Some e → res ≡ cond (set.contains e.payload.roles k) 1 0)
-    → ((e : Entry Row) → get m p ≡ Some e → m' ≡ cond (set.contains e.payload.roles k) (changed_at (paid_by (untaken k)) p m) m)
+    → ((e : StoreRow Row) → get m p ≡ Some e → res ≡ cond (set.contains e.payload.roles k) 1 0)
+    → ((e : StoreRow Row) → get m p ≡ Some e → m' ≡ cond (set.contains e.payload.roles k) (changed_at (paid_by (untaken k)) p m) m)
     → Swept m m' p loses k g0 g0 res
 own_swept m m' p k c loses g0 res s tidy i at each taken rows = go (set.contains c.row.roles k) refl (taken (entry_in (cells m) c) here) (rows (entry_in (cells m) c) here)
   where

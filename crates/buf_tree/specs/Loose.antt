@@ -3,7 +3,7 @@ use Rattle.std.specs.Prelude.{◌≡◌, ◌+◌, ◌<◌, ℕ, true, cond, List
 use Rattle.std.specs.FinSet as set
 use Rattle.gcx_base.specs.declared.kind.Kind.TheVariants.{Element}
 use Rattle.gcx_model.specs.Members.{In}
-use Rattle.gcx_model.specs.Tree.{Node, Token, Start, Chars, End, grow}
+use Rattle.gcx_model.specs.Tree.{Node, TreeToken, Start, Chars, End, grow}
 use Rattle.gcx_model.specs.Growth.{may_come}
 use Rattle.gcx_model.specs.Held.{roles_given}
 use Rattle.gcx_model.specs.Past.{Past, past_fed, Opens}
@@ -52,7 +52,7 @@ abbrev pub StandsLoosely : List Passed → View → Past → Type 0
 StandsLoosely xs v past = Loosely (λ w. StandsFor w past) xs v
 
 -- the node that the token opens, if it opens one, is given no role
-abbrev pub GivesNone : Past → Token → Type 0
+abbrev pub GivesNone : Past → TreeToken → Type 0
 GivesNone past t = (n : Node) → Opens past.tree t n → roles_given past.plan (grow t past.tree) n ≡ []
 
 -- from v to w an element is passed that is given no role: it gets the next serial

@@ -7,7 +7,7 @@ use Rattle.gcx_model.specs.Growth.{may_come}
 use Rattle.gcx_model.specs.Held.{roles_given, roles_taken}
 use Rattle.gcx_model.specs.Members.{In}
 use Rattle.gcx_model.specs.Past.{Past, past_grown, token_for}
-use Rattle.gcx_model.specs.Tree.{Node, Token, grow}
+use Rattle.gcx_model.specs.Tree.{Node, TreeToken, grow}
 use Rattle.spread_laws.specs.Tops.{roles_kept}
 use Rattle.buf_tree.specs.Row.{Row}
 use Rattle.buf_tree.specs.Calls.{less, with_new, gone_new, most_new}
@@ -34,21 +34,21 @@ pub record OpenedWith (v w : View) (q : ℕ) (at : Option ℕ) (kind : Kind) (ro
   pub spread : w.spread ≡ v.spread
 
 -- of the roles that the node is given which the token opens, these are left that aren't taken in advance
-abbrev pub LeftTo : Past → Token → set.FinSet nat_cmp → Type 0
+abbrev pub LeftTo : Past → TreeToken → set.FinSet nat_cmp → Type 0
 LeftTo past t roles = (n : Node) → drop (length past.tree.nodes) (grow t past.tree).nodes ≡ n ∷ []
     → roles ≡ set.from_list (less (roles_given past.plan (grow t past.tree) n) (roles_taken past.plan (grow t past.tree) past.acts n))
 
 -- Where roles are spread, the token may come behind one past at least for which the buffer stands, and these are left to the node.
-abbrev pub MayOpenWith : View → Token → set.FinSet nat_cmp → Type 0
+abbrev pub MayOpenWith : View → TreeToken → set.FinSet nat_cmp → Type 0
 MayOpenWith v t roles = (v.spread ≡ None) ⊎ ((past : Past) × StandsFor v past × (may_come t past.tree ≡ true) × LeftTo past t roles)
 
 -- of the roles of the node that the token opens these are kept at it, where roles are spread
-abbrev pub KeptTo : Past → Token → set.FinSet nat_cmp → Type 0
+abbrev pub KeptTo : Past → TreeToken → set.FinSet nat_cmp → Type 0
 KeptTo past t kept = (n : Node) → drop (length past.tree.nodes) (grow t past.tree).nodes ≡ n ∷ []
     → kept ≡ set.from_list (roles_kept (past_grown t past) n)
 
 -- The same as `MayOpenWith`, and behind that past these are kept at the node.
-abbrev pub MayOpenKept : View → Token → (given kept : set.FinSet nat_cmp) → Type 0
+abbrev pub MayOpenKept : View → TreeToken → (given kept : set.FinSet nat_cmp) → Type 0
 MayOpenKept v t given kept = (v.spread ≡ None)
     ⊎ ((past : Past) × StandsFor v past × (may_come t past.tree ≡ true) × LeftTo past t given × KeptTo past t kept)
 

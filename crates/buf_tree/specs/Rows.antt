@@ -6,7 +6,7 @@ use Rattle.gcx_base.specs.declared.ids.Serial.{Serial}
 use Rattle.gcx_base.specs.declared.kind.Kind.{Kind}
 use Rattle.gcx_base.specs.declared.kind.Kind.TheVariants.{Document}
 use Rattle.gcx_base.specs.Kinds.{is_text}
-use Rattle.node_store.specs.Rows.{Entry}
+use Rattle.node_store.specs.Rows.{StoreRow}
 use Rattle.buf_tree.specs.Row.{Row}
 
 -- a text without a role
@@ -49,5 +49,5 @@ abbrev pub IsDead : Row → Type 0
 IsDead r = (r.is_open ≡ false) × (r.roles ≡ set.empty) × (r.covered ≡ false)
 
 -- and without a child
-abbrev pub IsSpare : Entry Row → Type 0
+abbrev pub IsSpare : StoreRow Row → Type 0
 IsSpare e = (e.payload.is_open ≡ false) × (e.payload.roles ≡ set.empty) × (e.payload.covered ≡ false) × (e.children ≡ [])

@@ -2,12 +2,12 @@
 use Rattle.std.specs.Prelude.{◌≡◌, ◌==◌, ◌<◌, ◌⊎◌, ℕ, Bool, cond, not, ◌&&◌, List, [], ◌∷◌, Option, Some, None, filter, length, option_map, map, ltb}
 use Rattle.std.specs.Ordering.{nat_cmp}
 use Rattle.std.specs.FinMap.{FinMap, get, keys}
-use Rattle.node_store.specs.Rows.{Entry}
+use Rattle.node_store.specs.Rows.{StoreRow}
 use Rattle.gcx_model.specs.Members.{In}
 use Rattle.buf_tree.specs.Row.{Row}
 
 abbrev pub Store : Type 0
-Store = FinMap nat_cmp (Entry Row)
+Store = FinMap nat_cmp (StoreRow Row)
 
 pub record Cell : Type 0 where
   pub place : ℕ
@@ -21,7 +21,7 @@ abbrev pub put : Cell → List Cell → List Cell
 put c [] = c ∷ []
 put c (x ∷ xs) = cond (ltb (num c) (num x)) (c ∷ x ∷ xs) (cond (ltb (num x) (num c)) (x ∷ put c xs) (x ∷ xs))
 
-abbrev pub put_entry : ℕ → Option (Entry Row) → List Cell → List Cell
+abbrev pub put_entry : ℕ → Option (StoreRow Row) → List Cell → List Cell
 put_entry p None xs = xs
 put_entry p (Some e) xs = put (record { place = p; row = e.payload }) xs
 
@@ -56,7 +56,7 @@ place_for xs r = cond (r.serial == 0) None (option_map (λ c. c.place) (at_seria
 abbrev pub is_under : ℕ → Cell → Bool
 is_under k d = not (num d == 0) && (d.row.parent == k)
 
-abbrev pub entry_in : List Cell → Cell → Entry Row
+abbrev pub entry_in : List Cell → Cell → StoreRow Row
 entry_in xs c = record { parent = place_for xs c.row; children = map (λ d. d.place) (filter (is_under (num c)) xs); payload = c.row }
 
 abbrev pub Above : List Cell → Cell → Type 0
@@ -81,12 +81,12 @@ abbrev pub AtPlaces : List Cell → (p q : ℕ) → (Cell → Cell → Type 0) �
 AtPlaces xs p q R = (c d : Cell) → In c xs → In d xs → c.place ≡ p → d.place ≡ q → R c d
 
 -- of what the store has at the place, where it has something
-abbrev pub AtEntry : Store → ℕ → (Entry Row → Type 0) → Type 0
-AtEntry m p R = (e : Entry Row) → get m p ≡ Some e → R e
+abbrev pub AtEntry : Store → ℕ → (StoreRow Row → Type 0) → Type 0
+AtEntry m p R = (e : StoreRow Row) → get m p ≡ Some e → R e
 
 -- and it has something there
-abbrev pub HasEntry : Store → ℕ → (Entry Row → Type 0) → Type 0
-HasEntry m p R = (e : Entry Row) × (get m p ≡ Some e) × R e
+abbrev pub HasEntry : Store → ℕ → (StoreRow Row → Type 0) → Type 0
+HasEntry m p R = (e : StoreRow Row) × (get m p ≡ Some e) × R e
 
 -- the row at the place p changed by f
 abbrev pub with_at : (Row → Row) → ℕ → Cell → Cell

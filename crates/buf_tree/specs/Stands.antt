@@ -11,7 +11,7 @@ use Rattle.gcx_model.specs.Core.{BodyTree, PlanTree}
 use Rattle.gcx_model.specs.Cores.{Good}
 use Rattle.gcx_model.specs.Placed.{Placed, offs_in, is_own}
 use Rattle.gcx_model.specs.Run.{Offed}
-use Rattle.gcx_model.specs.Tree.{Node, Root, Token, End, opening, grow}
+use Rattle.gcx_model.specs.Tree.{Node, Root, TreeToken, End, opening, grow}
 use Rattle.gcx_model.specs.Growth.{level, may_come}
 use Rattle.gcx_model.specs.Held.{held, roles_given, roles_taken}
 use Rattle.gcx_model.specs.Past.{Past, IsPast, HeldRow, row_of, Awaited, waiting_offs, opening_past, past_fed, past_grown, past_acted, token_for}
@@ -71,12 +71,12 @@ abbrev pub past_told : Past → Past
 past_told past = record past { fed = length past.acts }
 
 -- the node that the token opens is given the one list of roles, of which the other is taken in advance
-abbrev pub GivenTo : Past → Token → List Role → List Role → Type 0
+abbrev pub GivenTo : Past → TreeToken → List Role → List Role → Type 0
 GivenTo past t gs as_ = (n : Node) → drop (length past.tree.nodes) (grow t past.tree).nodes ≡ n ∷ []
     → (numbers gs ≡ roles_given past.plan (grow t past.tree) n) × (numbers as_ ≡ roles_taken past.plan (grow t past.tree) past.acts n)
 
 -- Where roles are spread, the token may come behind one past at least for which the buffer stands, and it gives the node these roles.
-abbrev pub MayOpen : View → Token → List Role → List Role → Type 0
+abbrev pub MayOpen : View → TreeToken → List Role → List Role → Type 0
 MayOpen v t gs as_ = (v.spread ≡ None) ⊎ ((past : Past) × StandsFor v past × (may_come t past.tree ≡ true) × GivenTo past t gs as_)
 
 -- a buffer of these roles stands for the opening past of each placed plan that gives them to the document node

@@ -7,7 +7,7 @@ use Rattle.gcx_base.specs.declared.ids.Serial.{Serial}
 use Rattle.gcx_model.specs.declared.item.Off.{Off}
 use Rattle.gcx_model.specs.Members.{In}
 use Rattle.gcx_model.specs.Tree.{Tree, Node}
-use Rattle.node_store.specs.Rows.{Entry, unlinked, changed_at, paid_by}
+use Rattle.node_store.specs.Rows.{StoreRow, unlinked, changed_at, paid_by}
 use Rattle.buf_tree.specs.Row.{Row}
 use Rattle.buf_tree.specs.Rows.{IsSpare, serials, untaken}
 use Rattle.buf_tree.specs.Shape.{Store, Cell, cells, Shaped, AtEntry}
@@ -40,7 +40,7 @@ pub record LosesBy (xs : List Cell) (T : Tree) (off : Off) (others : Bool) (c : 
   pub each : (d : Cell) → In d xs → (loses d ≡ true) ↔ Loses xs T off others c d
 
 -- the row with the entry e at the place went where it was spare, else nothing did
-abbrev pub Shed : Entry Row → (m0 m : Store) → (place : ℕ) → (g0 g : List ℕ) → (len0 len : ℕ) → Type 0
+abbrev pub Shed : StoreRow Row → (m0 m : Store) → (place : ℕ) → (g0 g : List ℕ) → (len0 len : ℕ) → Type 0
 Shed e m0 m place g0 g len0 len =
     (IsSpare e × (m ≡ unlinked m0 place) × (g ≡ g0 ++ e.payload.serial ∷ []) × (len ≡ len0 + 1)) ⊎ ((IsSpare e → ⊥) × (m ≡ m0) × (g ≡ g0) × (len ≡ len0))
 

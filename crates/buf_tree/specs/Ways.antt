@@ -7,7 +7,7 @@ use Rattle.gcx_base.specs.declared.steps.Axis.{Axis}
 use Rattle.gcx_base.specs.declared.steps.Axis.TheVariants.{Child, Descendant}
 use Rattle.gcx_base.specs.declared.steps.Step.{Step}
 use Rattle.gcx_model.specs.declared.item.Off.{Off}
-use Rattle.gcx_model.specs.Core.{RoleKind, Own, First, Whole}
+use Rattle.gcx_model.specs.Core.{RoleTarget, Own, First, Whole}
 use Rattle.gcx_model.specs.Held.{is_node, reaches}
 use Rattle.gcx_model.specs.ItemView.{off_tree}
 use Rattle.gcx_model.specs.Nodes.{Rising}
@@ -95,24 +95,24 @@ abbrev pub is_waiting : Row → Off → Bool
 is_waiting r o = (set.contains r.roles o.own.0 || set.contains r.signed o.own.0) && not (set.contains r.signed o.role.0)
 
 -- the steps of a tail; where the kind is `Own` they don't count
-abbrev pub tail_steps : RoleKind → List Step → List Step
+abbrev pub tail_steps : RoleTarget → List Step → List Step
 tail_steps Own tail = []
 tail_steps First tail = tail
 tail_steps Whole tail = tail
 
 -- the end of the tail's steps: the node, or for the kind `Whole` one above it too
-abbrev pub tail_ends : RoleKind → (n : Node) → Node → Bool
+abbrev pub tail_ends : RoleTarget → (n : Node) → Node → Bool
 tail_ends Own n j = is_same n j
 tail_ends First n j = is_same n j
 tail_ends Whole n j = true
 
-abbrev pub is_whole : RoleKind → Bool
+abbrev pub is_whole : RoleTarget → Bool
 is_whole Own = false
 is_whole First = false
 is_whole Whole = true
 
 -- the tail leads by its kind from j to n
-abbrev pub ends_at : Tree → RoleKind → List Step → (n j : Node) → Bool
+abbrev pub ends_at : Tree → RoleTarget → List Step → (n j : Node) → Bool
 ends_at T Own tail n j = is_same n j
 ends_at T First tail n j = is_node (serial_of n) (first T (serial_of j) tail)
 ends_at T Whole tail n j = any (hits (serial_of j) tail) (above n)

@@ -3,7 +3,7 @@ ghost use Rattle.std.specs.Prelude.{◌≡◌, ◌↔◌, ◌+◌, ◌≤◌, �
 ghost use Rattle.std.specs.FinMap as map;
 ghost use Rattle.std.specs.FinSet as set;
 ghost use Rattle.gcx_base.specs.declared.ids.Serial.{Serial};
-ghost use Rattle.node_store.specs.Rows.{Entry, planted, appended, unlinked, parent_of, changed_at, paid_by};
+ghost use Rattle.node_store.specs.Rows.{StoreRow, planted, appended, unlinked, parent_of, changed_at, paid_by};
 ghost use Rattle.buf_tree.specs.Rows.{IsSpare, covered_by, shut_row, untaken, signed_for, serials};
 ghost use Rattle.buf_tree.specs.Shape.{cells, Shaped, AtEntry, HasEntry};
 ghost use Rattle.buf_tree.specs.Purge.{TidyBut, Cleared};
@@ -71,7 +71,7 @@ pub(crate) fn sign<N: NodeStore<Row>>(nodes: &mut N, place: Place, role: Role) -
 #[inline(always)]
 pub(crate) fn is_spare<N: NodeStore<Row>>(nodes: &N, place: Place) -> bool
     requires { IsSome (map.get (N.rows nodes.now) place.0) }
-    ensures { (e : Entry Row) → map.get (N.rows nodes.now) place.0 ≡ Some e → IsTrue result ↔ IsSpare e }
+    ensures { (e : StoreRow Row) → map.get (N.rows nodes.now) place.0 ≡ Some e → IsTrue result ↔ IsSpare e }
 {
     let row = nodes.payload(place);
     row.is_closed() && row.has_none() && nodes.first(place).is_none()

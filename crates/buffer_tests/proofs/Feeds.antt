@@ -8,7 +8,7 @@ use Rattle.gcx_base.specs.declared.limits.Limits.{Limits}
 use Rattle.gcx_base.specs.Limits.{full_limits}
 use Rattle.gcx_model.specs.declared.fault.DocFault.{DocFault}
 use Rattle.gcx_model.specs.declared.fault.DocFault.TheVariants.{Utf8, Syntax, Truncated, Depth, NameLong, TextLong, TooLong, Memory}
-use Rattle.gcx_model.specs.Tree.{Node, Root, Under, serial_of, within, is_open_at, Tree, Token, opening, grow, grow_all}
+use Rattle.gcx_model.specs.Tree.{Node, Root, Under, serial_of, within, is_open_at, Tree, TreeToken, opening, grow, grow_all}
 use Rattle.gcx_model.specs.Members.{In}
 use Rattle.gcx_model.specs.Nodes.{Grown}
 use Rattle.gcx_model.specs.Core.{PlanTree, OffTree}
@@ -44,7 +44,7 @@ use Rattle.projector.proofs.Places.{rising, open_row, innermost_at}
 use Rattle.buffer_tests.specs.Buffers.{IsFed, OwnPlain}
 
 -- the token behind these ones may come there
-may_here : (ts : List Token) (t : Token) (us : List Token) (P : Tree) → may_all (ts ++ t ∷ us) P ≡ true → may_come t (grow_all ts P) ≡ true
+may_here : (ts : List TreeToken) (t : TreeToken) (us : List TreeToken) (P : Tree) → may_all (ts ++ t ∷ us) P ≡ true → may_come t (grow_all ts P) ≡ true
 may_here [] t us P h = (and_parts (may_come t P) (may_all us (grow t P)) h).0
 may_here (x ∷ ts) t us P h = may_here ts t us (grow x P) (and_parts (may_come x P) (may_all (ts ++ t ∷ us) (grow x P)) h).1
 
@@ -71,7 +71,7 @@ module _ (r : ReaderView) (lim : Limits) (b : List ℕ) (over : Bool) (given : L
   pub next_comes : (t : Given) (rest : List Given) → waiting r ≡ t ∷ rest → may_come (said_of t) (seen_tree (map said_of given)) ≡ true
   next_comes t rest e =
       may_here (map said_of given) (said_of t) (map said_of (rest ++ all.0)) opening
-      (subst (λ (l : List Token). may_all l opening ≡ true) (parts ∙ ap (λ (w : List Given). map said_of given ++ map said_of (w ++ all.0)) e) (seen_comes lim b over _ all.1))
+      (subst (λ (l : List TreeToken). may_all l opening ≡ true) (parts ∙ ap (λ (w : List Given). map said_of given ++ map said_of (w ++ all.0)) e) (seen_comes lim b over _ all.1))
 
   -- no open node lies too deep
   pub not_deep : (p : Node) → (seen_tree (map said_of given)).at ≡ Some p → level p ≤ lim.depth

@@ -23,7 +23,7 @@ among [] k x o h e i = absurd (omega arith)
 among (y ∷ ys) zero x o h e i = In-left o (item_offs (item_tree y)) (offs_in (body_of (map item_tree ys))) (subst (λ (z : Item). In o (item_offs (item_tree z))) e i)
 among (y ∷ ys) (suc k) x o h e i = In-right o (item_offs (item_tree y)) (offs_in (body_of (map item_tree ys))) (among ys k x o (omega arith) e i)
 
-pub fold_Off : (off : Off) → item_tree (item.Off off) ≡ tree.Off (off_tree off)
+pub fold_Off : (off : Off) → item_tree (item.Off off) ≡ tree.SignOff (off_tree off)
 fold_Off off = search (rules, item_lemmas)
 
 -- such a statement is due where the base has the role

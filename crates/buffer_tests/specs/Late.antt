@@ -3,7 +3,7 @@ use Rattle.std.specs.Prelude.{◌≡◌, ℕ, ◌≤◌, true, List, length, map
 use Rattle.gcx_base.specs.Limits.{full_limits}
 use Rattle.gcx_model.specs.Core.{PlanTree}
 use Rattle.gcx_model.specs.Past.{Past}
-use Rattle.gcx_model.specs.Tree.{Token as Said, Start, Chars, End}
+use Rattle.gcx_model.specs.Tree.{TreeToken as Said, Start, Chars, End}
 use Rattle.gcx_model.specs.Seen.{seen_tree}
 use Rattle.doc_reader.specs.Standing.{ReaderView, Stands, said_of, Token}
 use Rattle.buf_tree.specs.View.{View}

@@ -7,7 +7,7 @@ use Rattle.gcx_base.specs.declared.steps.Step.{Step}
 use Rattle.gcx_model.specs.Tree.{Node, Root, serial_of, Tree, is_closed}
 use Rattle.gcx_model.specs.Paths.{any, head, matches}
 use Rattle.gcx_model.specs.Members.{In}
-use Rattle.gcx_model.specs.Values.{Value, Bytes}
+use Rattle.gcx_model.specs.Values.{ComparedValue, Bytes}
 use Rattle.gcx_model.specs.Answer.{is_any}
 use Rattle.gcx_model.specs.Truth.{node_value}
 use Rattle.move_laws.specs.Kept.{only}
@@ -176,7 +176,7 @@ read_at rows P keep ms ns i d r h =
     }
 
 -- whether some value passes is told by those from the index on
-abbrev pub PassesOn : List Cell → (test : Value → Bool) → List Member → (i : ℕ) → Type 0
+abbrev pub PassesOn : List Cell → (test : ComparedValue → Bool) → List Member → (i : ℕ) → Type 0
 PassesOn rows r ms i = (P : Tree) (keep : Node → Bool) (ns : List Node) → Readable rows P keep ms ns → any r (map (node_value P) (drop i ns)) ≡ any r (map (node_value P) ns)
 
 or_true : (b c : Bool) → b ≡ true → true ≡ b || c
@@ -185,7 +185,7 @@ or_true b c e = ap (λ z. z || c) (sym e)
 or_false : (b c : Bool) → b ≡ false → c ≡ b || c
 or_false b c e = ap (λ z. z || c) (sym e)
 
-module _ (rows : List Cell) (r : Value → Bool) (ms : List Member) where
+module _ (rows : List Cell) (r : ComparedValue → Bool) (ms : List Member) where
   pub passes_all : (i : ℕ) → length ms ≤ i → PassesOn rows r ms i → (P : Tree) (keep : Node → Bool) (ns : List Node) → Readable rows P keep ms ns → false ≡ any r (map (node_value P) ns)
   passes_all i h on P keep ns read =
       let same = same_length ms ns read.nodes.serials in
@@ -208,7 +208,7 @@ pub or_none : (b : Bool) → b ≡ b || false
 or_none true = refl
 or_none false = refl
 
-pub any_empty : {Y : Type 0} (r : Value → Y → Bool) (vs : List Value) → any (λ v. any (r v) []) vs ≡ false
+pub any_empty : {Y : Type 0} (r : ComparedValue → Y → Bool) (vs : List ComparedValue) → any (λ v. any (r v) []) vs ≡ false
 any_empty r [] = refl
 any_empty r (v ∷ vs) = any_empty r vs
 

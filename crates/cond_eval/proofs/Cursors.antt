@@ -5,7 +5,7 @@ use Rattle.std.specs.FinMap.{get}
 use Rattle.gcx_base.specs.declared.kind.Kind.{Kind}
 use Rattle.gcx_base.specs.declared.kind.Kind.TheVariants.{Document, Element, Text}
 use Rattle.tree_laws.proofs.Lists.{In}
-use Rattle.node_store.specs.Rows.{Entry, parent_of}
+use Rattle.node_store.specs.Rows.{StoreRow, parent_of}
 use Rattle.buf_tree.specs.Row.{Row}
 use Rattle.gcx_base.specs.Kinds.{is_text}
 use Rattle.buf_tree.specs.Shape.{Store, Cell, num, at_place, Shape, Shaped}
@@ -30,12 +30,12 @@ no_text_kind (Element name) h = refl
 no_text_kind (Text b) h = absurd (h b refl)
 
 module _ (m : Store) (rows : List Cell) (s : Shape m rows) where
-  pub row_here : (p : ℕ) (r : Row) → option_map (λ (e : Entry Row). e.payload) (get m p) ≡ Some r → (c : Cell) → In c rows → c.place ≡ p → c.row ≡ r
+  pub row_here : (p : ℕ) (r : Row) → option_map (λ (e : StoreRow Row). e.payload) (get m p) ≡ Some r → (c : Cell) → In c rows → c.place ≡ p → c.row ≡ r
   row_here p r h c i e =
-      let same : Some c.row ≡ Some r = sym (ap (option_map (λ (x : Entry Row). x.payload)) (ap (get m) (sym e) ∙ get_of m rows s c i)) ∙ h in
+      let same : Some c.row ≡ Some r = sym (ap (option_map (λ (x : StoreRow Row). x.payload)) (ap (get m) (sym e) ∙ get_of m rows s c i)) ∙ h in
       cc
 
-  pub num_here : (p : ℕ) (r : Row) (k : ℕ) → option_map (λ (e : Entry Row). e.payload) (get m p) ≡ Some r → k ≡ r.serial → (c : Cell) → In c rows → c.place ≡ p → num c ≡ k
+  pub num_here : (p : ℕ) (r : Row) (k : ℕ) → option_map (λ (e : StoreRow Row). e.payload) (get m p) ≡ Some r → k ≡ r.serial → (c : Cell) → In c rows → c.place ≡ p → num c ≡ k
   num_here p r k h f c i e = ap (λ (x : Row). x.serial) (row_here p r h c i e) ∙ sym f
 
   serial_of_place : (c : Cell) (p : ℕ) → In c rows → c.place ≡ p → serial_in rows (at_place p rows) ≡ num c

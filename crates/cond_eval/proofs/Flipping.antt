@@ -8,7 +8,7 @@ use Rattle.std.specs.declared.cmp.Ordering.{Ordering}
 use Rattle.std.specs.declared.cmp.Ordering.TheVariants.{Less, Equal, Greater}
 use Rattle.gcx_base.specs.declared.rel.Rel.{Rel}
 use Rattle.gcx_base.specs.declared.rel.Rel.TheVariants.{Eq, Ne, Lt, Le, Gt, Ge}
-use Rattle.gcx_model.specs.Values.{Value, Bytes, Units, Decimal, number, against, order, rel_holds, compare}
+use Rattle.gcx_model.specs.Values.{ComparedValue, Bytes, Units, Decimal, number, against, order, rel_holds, compare}
 
 -- `<` for `>`, and so on
 abbrev pub flip : Rel → Rel
@@ -56,12 +56,12 @@ turned_back : (d : Option Decimal) (f : Decimal → Ordering) → option_map (λ
 turned_back None f = refl
 turned_back (Some d) f = refl
 
-order_turned : (v w : Value) → order w v ≡ option_map ordering_reverse (order v w)
+order_turned : (v w : ComparedValue) → order w v ≡ option_map ordering_reverse (order v w)
 order_turned (Bytes v) (Bytes w) = ap Some (nat_list_cmp_total.antisymm w v)
 order_turned (Bytes v) (Units l) = turned_back (number v) (λ d. against d l)
 order_turned (Units l) (Bytes w) = turned_number (number w) (λ d. against d l)
 order_turned (Units l) (Units k) = ap Some (int_cmp_total.antisymm k l)
 
 -- the flipped relation holds of a pair where the relation holds of it turned round
-pub compare_flipped : (rel : Rel) (v w : Value) → compare (flip rel) w v ≡ compare rel v w
+pub compare_flipped : (rel : Rel) (v w : ComparedValue) → compare (flip rel) w v ≡ compare rel v w
 compare_flipped rel v w = ap (is_some_and (rel_holds (flip rel))) (order_turned v w) ∙ flip_some rel (order v w)

@@ -11,7 +11,7 @@ use Rattle.gcx_model.specs.Tree.{Node, Tree}
 use Rattle.gcx_model.specs.Members.{In}
 use Rattle.gcx_base.specs.declared.ids.VarId.{VarId}
 use Rattle.gcx_base.specs.declared.steps.Step.{Step}
-use Rattle.gcx_model.specs.Core.{CondTree, Exists, Not, All, Any, RoleRowTree}
+use Rattle.gcx_model.specs.Core.{CondTree, Exists, Not, AllOf, AnyOf, RoleRowTree}
 use Rattle.gcx_model.specs.CondView.{core_cond_tree, core_conds_of}
 use Rattle.gcx_model.specs.declared.truth.Truth.{Truth}
 use Rattle.gcx_model.specs.Truth.{Env, truth, truth_all, truth_any, both, either}
@@ -49,11 +49,11 @@ module _ (rows : List Cell) (bound : Bindings) (P : Tree) (env : Env) where
   named_by d (c ∷ cs) (inl e) r h = In-left r (cond_rows c) (conds_rows (core_conds_of cs)) (subst (λ (z : CondTree). In r (cond_rows z)) (sym e) h)
   named_by d (c ∷ cs) (inr i) r h = In-right r (cond_rows c) (conds_rows (core_conds_of cs)) (named_by d cs i r h)
 
-  pub asked_all : (cs : List CondTree) (d : CondTree) → In d cs → Asked rows bound (All (core_conds_of cs)) P env → Asked rows bound d P env
-  asked_all cs d i a = asked_part (All (core_conds_of cs)) d (needed_by d cs i) (named_by d cs i) a
+  pub asked_all : (cs : List CondTree) (d : CondTree) → In d cs → Asked rows bound (AllOf (core_conds_of cs)) P env → Asked rows bound d P env
+  asked_all cs d i a = asked_part (AllOf (core_conds_of cs)) d (needed_by d cs i) (named_by d cs i) a
 
-  pub asked_any : (cs : List CondTree) (d : CondTree) → In d cs → Asked rows bound (Any (core_conds_of cs)) P env → Asked rows bound d P env
-  asked_any cs d i a = asked_part (Any (core_conds_of cs)) d (needed_by d cs i) (named_by d cs i) a
+  pub asked_any : (cs : List CondTree) (d : CondTree) → In d cs → Asked rows bound (AnyOf (core_conds_of cs)) P env → Asked rows bound d P env
+  asked_any cs d i a = asked_part (AnyOf (core_conds_of cs)) d (needed_by d cs i) (named_by d cs i) a
 
 -- ---- how the answers of members go together
 
@@ -85,10 +85,10 @@ either_other Unknown w d = refl
 
 module _ (before now after : Tree → Type 0) (rows : List Cell) (bound : Bindings) where
   -- at the beginning
-  pub goes_all : (cs : List CondTree) → Goes before before rows bound (All (core_conds_of cs)) (rest_all cs)
+  pub goes_all : (cs : List CondTree) → Goes before before rows bound (AllOf (core_conds_of cs)) (rest_all cs)
   goes_all cs P env s a = (refl, s)
 
-  pub goes_any : (cs : List CondTree) → Goes before before rows bound (Any (core_conds_of cs)) (rest_any cs)
+  pub goes_any : (cs : List CondTree) → Goes before before rows bound (AnyOf (core_conds_of cs)) (rest_any cs)
   goes_any cs P env s a = (refl, s)
 
   -- a part may be asked of the value of now
@@ -97,47 +97,47 @@ module _ (before now after : Tree → Type 0) (rows : List Cell) (bound : Bindin
 
   module _ (cs : List CondTree) (d : CondTree) (ds : List CondTree) (i : In d cs) (t : Truth) where
     -- the answer of a member that settles nothing
-    pub goes_all_on : Goes before now rows bound (All (core_conds_of cs)) (rest_all (d ∷ ds)) → Answers now after rows bound d t → t ≡ True → Goes before after rows bound (All (core_conds_of cs)) (rest_all ds)
+    pub goes_all_on : Goes before now rows bound (AllOf (core_conds_of cs)) (rest_all (d ∷ ds)) → Answers now after rows bound d t → t ≡ True → Goes before after rows bound (AllOf (core_conds_of cs)) (rest_all ds)
     goes_all_on goes answers e P env s a =
         let g = goes P env s a in
         let r = answers P env g.1 (asked_all rows bound P env cs d i a) in
         (sym (both_true (truth d env P) (rest_all ds env P) (sym r.0 ∙ e)) ∙ g.0, r.1)
 
-    pub goes_any_on : Goes before now rows bound (Any (core_conds_of cs)) (rest_any (d ∷ ds)) → Answers now after rows bound d t → t ≡ False → Goes before after rows bound (Any (core_conds_of cs)) (rest_any ds)
+    pub goes_any_on : Goes before now rows bound (AnyOf (core_conds_of cs)) (rest_any (d ∷ ds)) → Answers now after rows bound d t → t ≡ False → Goes before after rows bound (AnyOf (core_conds_of cs)) (rest_any ds)
     goes_any_on goes answers e P env s a =
         let g = goes P env s a in
         let r = answers P env g.1 (asked_any rows bound P env cs d i a) in
         (sym (either_false (truth d env P) (rest_any ds env P) (sym r.0 ∙ e)) ∙ g.0, r.1)
 
     -- and of one that settles all
-    pub settles_all : Goes before now rows bound (All (core_conds_of cs)) (rest_all (d ∷ ds)) → Answers now after rows bound d t → t ≢ True → Answers before after rows bound (All (core_conds_of cs)) t
+    pub settles_all : Goes before now rows bound (AllOf (core_conds_of cs)) (rest_all (d ∷ ds)) → Answers now after rows bound d t → t ≢ True → Answers before after rows bound (AllOf (core_conds_of cs)) t
     settles_all goes answers e P env s a =
         let g = goes P env s a in
         let r = answers P env g.1 (asked_all rows bound P env cs d i a) in
         (sym (both_other t (rest_all ds env P) e) ∙ (ap (λ v. both v (rest_all ds env P)) r.0 ∙ g.0), r.1)
 
-    pub settles_any : Goes before now rows bound (Any (core_conds_of cs)) (rest_any (d ∷ ds)) → Answers now after rows bound d t → t ≢ False → Answers before after rows bound (Any (core_conds_of cs)) t
+    pub settles_any : Goes before now rows bound (AnyOf (core_conds_of cs)) (rest_any (d ∷ ds)) → Answers now after rows bound d t → t ≢ False → Answers before after rows bound (AnyOf (core_conds_of cs)) t
     settles_any goes answers e P env s a =
         let g = goes P env s a in
         let r = answers P env g.1 (asked_any rows bound P env cs d i a) in
         (sym (either_other t (rest_any ds env P) e) ∙ (ap (λ v. either v (rest_any ds env P)) r.0 ∙ g.0), r.1)
 
   -- behind all members
-  pub ends_all : (cs : List CondTree) → Goes before now rows bound (All (core_conds_of cs)) (rest_all []) → Answers before now rows bound (All (core_conds_of cs)) True
+  pub ends_all : (cs : List CondTree) → Goes before now rows bound (AllOf (core_conds_of cs)) (rest_all []) → Answers before now rows bound (AllOf (core_conds_of cs)) True
   ends_all cs goes = goes
 
-  pub ends_any : (cs : List CondTree) → Goes before now rows bound (Any (core_conds_of cs)) (rest_any []) → Answers before now rows bound (Any (core_conds_of cs)) False
+  pub ends_any : (cs : List CondTree) → Goes before now rows bound (AnyOf (core_conds_of cs)) (rest_any []) → Answers before now rows bound (AnyOf (core_conds_of cs)) False
   ends_any cs goes = goes
 
 -- ---- in the code
 
-pub fold_All : (cs : CodeConds) → core_cond_tree (code.All cs) ≡ All (core_conds_of (map core_cond_tree cs.members.items))
+pub fold_All : (cs : CodeConds) → core_cond_tree (code.All cs) ≡ AllOf (core_conds_of (map core_cond_tree cs.members.items))
 fold_All cs = search (rules, the_lemmas)
 
 pub fold_Exists : (x : VarId) (steps : List Step) → core_cond_tree (declared.Exists x steps) ≡ Exists x.0 steps
 fold_Exists x steps = search (rules, the_lemmas)
 
-pub fold_Any : (cs : CodeConds) → core_cond_tree (code.Any cs) ≡ Any (core_conds_of (map core_cond_tree cs.members.items))
+pub fold_Any : (cs : CodeConds) → core_cond_tree (code.Any cs) ≡ AnyOf (core_conds_of (map core_cond_tree cs.members.items))
 fold_Any cs = search (rules, the_lemmas)
 
 pub apart : (t u : Truth) → true ≡ not (sameb the_type t u) → t ≢ u
@@ -179,26 +179,26 @@ module _ (before : Tree → Type 0) (rows : List Cell) (bound : Bindings) (items
   trees = map core_cond_tree items
 
   pub record AllGoes (now : Tree → Type 0) (i : ℕ) : Type 0 where
-    pub goes : Goes before now rows bound (All (core_conds_of (map core_cond_tree items))) (rest_all (map core_cond_tree (drop i items)))
+    pub goes : Goes before now rows bound (AllOf (core_conds_of (map core_cond_tree items))) (rest_all (map core_cond_tree (drop i items)))
     pub each : MayAskEach now rows bound items
 
   pub record AnyGoes (now : Tree → Type 0) (i : ℕ) : Type 0 where
-    pub goes : Goes before now rows bound (Any (core_conds_of (map core_cond_tree items))) (rest_any (map core_cond_tree (drop i items)))
+    pub goes : Goes before now rows bound (AnyOf (core_conds_of (map core_cond_tree items))) (rest_any (map core_cond_tree (drop i items)))
     pub each : MayAskEach now rows bound items
 
   module _ (c : Cond) (m : MayAsk before rows bound (core_cond_tree c)) where
-    module _ (tree : core_cond_tree c ≡ All (core_conds_of (map core_cond_tree items))) where
-      may_all : MayAsk before rows bound (All (core_conds_of trees))
+    module _ (tree : core_cond_tree c ≡ AllOf (core_conds_of (map core_cond_tree items))) where
+      may_all : MayAsk before rows bound (AllOf (core_conds_of trees))
       may_all = subst (λ (z : CondTree). MayAsk before rows bound z) tree m
 
-      each_all : (now : Tree → Type 0) (rest : Env → Tree → Truth) → Goes before now rows bound (All (core_conds_of trees)) rest → MayAskEach now rows bound items
-      each_all now rest goes k x h e = may_ask before now now rows bound (All (core_conds_of trees)) (core_cond_tree x) rest (λ P env a. asked_all rows bound P env trees (core_cond_tree x) (in_trees items k x h e) a) may_all goes
+      each_all : (now : Tree → Type 0) (rest : Env → Tree → Truth) → Goes before now rows bound (AllOf (core_conds_of trees)) rest → MayAskEach now rows bound items
+      each_all now rest goes k x h e = may_ask before now now rows bound (AllOf (core_conds_of trees)) (core_cond_tree x) rest (λ P env a. asked_all rows bound P env trees (core_cond_tree x) (in_trees items k x h e) a) may_all goes
 
       pub all_none : AllGoes before 0
       all_none = let g = goes_all before before before rows bound trees in record { goes = g; each = each_all before (rest_all trees) g }
 
-      from_all : (now : Tree → Type 0) (i : ℕ) (x : Cond) → i < length items → x ≡ get_or items i x → AllGoes now i → Goes before now rows bound (All (core_conds_of trees)) (rest_all (core_cond_tree x ∷ map core_cond_tree (drop (i + 1) items)))
-      from_all now i x h e a = subst (λ (z : List CondTree). Goes before now rows bound (All (core_conds_of trees)) (rest_all z)) (trees_from items i x h e) a.goes
+      from_all : (now : Tree → Type 0) (i : ℕ) (x : Cond) → i < length items → x ≡ get_or items i x → AllGoes now i → Goes before now rows bound (AllOf (core_conds_of trees)) (rest_all (core_cond_tree x ∷ map core_cond_tree (drop (i + 1) items)))
+      from_all now i x h e a = subst (λ (z : List CondTree). Goes before now rows bound (AllOf (core_conds_of trees)) (rest_all z)) (trees_from items i x h e) a.goes
 
       pub all_on : (now after : Tree → Type 0) (i : ℕ) (x : Cond) (t : Truth) → i < length items → x ≡ get_or items i x → AllGoes now i → Answers now after rows bound (core_cond_tree x) t → t ≡ True → AllGoes after (i + 1)
       all_on now after i x t h e a answers is =
@@ -214,20 +214,20 @@ module _ (before : Tree → Type 0) (rows : List Cell) (bound : Bindings) (items
       pub all_end : (now : Tree → Type 0) (i : ℕ) → length items ≤ i → AllGoes now i → Answers before now rows bound (core_cond_tree c) True
       all_end now i h a =
           subst (λ (z : CondTree). Answers before now rows bound z True) (sym tree)
-          (ends_all before now now rows bound trees (subst (λ (z : List Cond). Goes before now rows bound (All (core_conds_of trees)) (rest_all (map core_cond_tree z))) (drop_all i items h) a.goes))
+          (ends_all before now now rows bound trees (subst (λ (z : List Cond). Goes before now rows bound (AllOf (core_conds_of trees)) (rest_all (map core_cond_tree z))) (drop_all i items h) a.goes))
 
-    module _ (tree : core_cond_tree c ≡ Any (core_conds_of (map core_cond_tree items))) where
-      may_any : MayAsk before rows bound (Any (core_conds_of trees))
+    module _ (tree : core_cond_tree c ≡ AnyOf (core_conds_of (map core_cond_tree items))) where
+      may_any : MayAsk before rows bound (AnyOf (core_conds_of trees))
       may_any = subst (λ (z : CondTree). MayAsk before rows bound z) tree m
 
-      each_any : (now : Tree → Type 0) (rest : Env → Tree → Truth) → Goes before now rows bound (Any (core_conds_of trees)) rest → MayAskEach now rows bound items
-      each_any now rest goes k x h e = may_ask before now now rows bound (Any (core_conds_of trees)) (core_cond_tree x) rest (λ P env a. asked_any rows bound P env trees (core_cond_tree x) (in_trees items k x h e) a) may_any goes
+      each_any : (now : Tree → Type 0) (rest : Env → Tree → Truth) → Goes before now rows bound (AnyOf (core_conds_of trees)) rest → MayAskEach now rows bound items
+      each_any now rest goes k x h e = may_ask before now now rows bound (AnyOf (core_conds_of trees)) (core_cond_tree x) rest (λ P env a. asked_any rows bound P env trees (core_cond_tree x) (in_trees items k x h e) a) may_any goes
 
       pub any_none : AnyGoes before 0
       any_none = let g = goes_any before before before rows bound trees in record { goes = g; each = each_any before (rest_any trees) g }
 
-      from_any : (now : Tree → Type 0) (i : ℕ) (x : Cond) → i < length items → x ≡ get_or items i x → AnyGoes now i → Goes before now rows bound (Any (core_conds_of trees)) (rest_any (core_cond_tree x ∷ map core_cond_tree (drop (i + 1) items)))
-      from_any now i x h e a = subst (λ (z : List CondTree). Goes before now rows bound (Any (core_conds_of trees)) (rest_any z)) (trees_from items i x h e) a.goes
+      from_any : (now : Tree → Type 0) (i : ℕ) (x : Cond) → i < length items → x ≡ get_or items i x → AnyGoes now i → Goes before now rows bound (AnyOf (core_conds_of trees)) (rest_any (core_cond_tree x ∷ map core_cond_tree (drop (i + 1) items)))
+      from_any now i x h e a = subst (λ (z : List CondTree). Goes before now rows bound (AnyOf (core_conds_of trees)) (rest_any z)) (trees_from items i x h e) a.goes
 
       pub any_on : (now after : Tree → Type 0) (i : ℕ) (x : Cond) (t : Truth) → i < length items → x ≡ get_or items i x → AnyGoes now i → Answers now after rows bound (core_cond_tree x) t → t ≡ False → AnyGoes after (i + 1)
       any_on now after i x t h e a answers is =
@@ -243,4 +243,4 @@ module _ (before : Tree → Type 0) (rows : List Cell) (bound : Bindings) (items
       pub any_end : (now : Tree → Type 0) (i : ℕ) → length items ≤ i → AnyGoes now i → Answers before now rows bound (core_cond_tree c) False
       any_end now i h a =
           subst (λ (z : CondTree). Answers before now rows bound z False) (sym tree)
-          (ends_any before now now rows bound trees (subst (λ (z : List Cond). Goes before now rows bound (Any (core_conds_of trees)) (rest_any (map core_cond_tree z))) (drop_all i items h) a.goes))
+          (ends_any before now now rows bound trees (subst (λ (z : List Cond). Goes before now rows bound (AnyOf (core_conds_of trees)) (rest_any (map core_cond_tree z))) (drop_all i items h) a.goes))

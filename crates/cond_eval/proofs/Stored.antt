@@ -5,7 +5,7 @@ use Rattle.std.specs.FinMap.{get}
 use Rattle.gcx_base.specs.declared.kind.Kind.{Kind}
 use Rattle.gcx_model.specs.Members.{In}
 use Rattle.gcx_model.specs.Tree.{Node, Tree}
-use Rattle.node_store.specs.Rows.{Entry}
+use Rattle.node_store.specs.Rows.{StoreRow}
 use Rattle.buf_tree.specs.Row.{Row}
 use Rattle.buf_tree.specs.Shape.{Store, Cell, num, Shape}
 use Rattle.buf_tree.specs.Spread.{SameButRoles, bare_cell}
@@ -38,5 +38,5 @@ module _ (ks rs : List Cell) (same : SameButRoles ks rs) where
   pub tells_stored : (m last top : Member) (b : Bool) → TellsInside ks m last top b → TellsInside rs m last top b
   tells_stored m last top b h = λ P keep l n t a. h P keep l n t (node_stored P keep m.place n a)
 
-  pub kind_here : (m : Store) → Shape m ks → (p : ℕ) (r : Row) (k : Kind) → option_map (λ (e : Entry Row). e.payload) (get m p) ≡ Some r → r.kind ≡ k → (c : Cell) → In c rs → c.place ≡ p → c.row.kind ≡ k
+  pub kind_here : (m : Store) → Shape m ks → (p : ℕ) (r : Row) (k : Kind) → option_map (λ (e : StoreRow Row). e.payload) (get m p) ≡ Some r → r.kind ≡ k → (c : Cell) → In c rs → c.place ≡ p → c.row.kind ≡ k
   kind_here m s p r k h f c i e = kind_told m ks rs s same p r h c i e ∙ f

@@ -9,7 +9,7 @@ use Rattle.gcx_model.specs.Paths.{any, matches}
 use Rattle.gcx_model.specs.Members.{In}
 use Rattle.gcx_model.specs.Core.{OperandTree, Path, CondTree, Exists, Compare, RoleRowTree, First, Whole}
 use Rattle.gcx_model.specs.CondView.{operand_tree}
-use Rattle.gcx_model.specs.Values.{Value, compare}
+use Rattle.gcx_model.specs.Values.{ComparedValue, compare}
 use Rattle.gcx_model.specs.Answer.{some_pair}
 use Rattle.gcx_model.specs.Truth.{Env, settled_values, is_over, settle}
 use Rattle.gcx_model.specs.Roles.{operand_rows, cond_rows}
@@ -87,7 +87,7 @@ and_true true c e = sym e
 and_true false c e = refl
 
 -- a literal on the left is one on the right, for the flipped relation
-pub any_flipped : (rel flipped : Rel) → ((v w : Value) → compare flipped w v ≡ compare rel v w) → (v : Value) (ws : List Value) → some_pair (compare flipped) ws (v ∷ []) ≡ any (compare rel v) ws
+pub any_flipped : (rel flipped : Rel) → ((v w : ComparedValue) → compare flipped w v ≡ compare rel v w) → (v : ComparedValue) (ws : List ComparedValue) → some_pair (compare flipped) ws (v ∷ []) ≡ any (compare rel v) ws
 any_flipped rel flipped turned v [] = refl
 any_flipped rel flipped turned v (w ∷ ws) = or_both (compare flipped w v) (compare rel v w) (some_pair (compare flipped) ws (v ∷ [])) (any (compare rel v) ws) (turned v w) (any_flipped rel flipped turned v ws)
   where
@@ -116,7 +116,7 @@ module _ (rows : List Cell) (bound : Bindings) (t : Truth) where
       ∙ (ap (λ vs. settle (some_pair (compare rel) (closed_values P (env x) steps) vs) (is_closed P (env x))) (sym (literal_values P env o lit))
       ∙ ap (settle (some_pair (compare rel) (closed_values P (env x) steps) (settled_values P env (operand_tree o)))) (and_true (is_closed P (env x)) (is_over P env (operand_tree o)) (literal_over P env o lit)))
 
-  pub flipped_told : (x : ℕ) (steps : List Step) (rel flipped : Rel) (o : Operand) (p : ℕ) → IsLiteral o → IsPlace bound x p → ((v w : Value) → compare flipped w v ≡ compare rel v w) → TellsLiteral rows p steps flipped (literal_value o) t → Tells rows bound (Compare (operand_tree o) rel (Path x steps)) t
+  pub flipped_told : (x : ℕ) (steps : List Step) (rel flipped : Rel) (o : Operand) (p : ℕ) → IsLiteral o → IsPlace bound x p → ((v w : ComparedValue) → compare flipped w v ≡ compare rel v w) → TellsLiteral rows p steps flipped (literal_value o) t → Tells rows bound (Compare (operand_tree o) rel (Path x steps)) t
   flipped_told x steps rel flipped o p lit is turned tells P env a =
       let vs = closed_values P (env x) steps in
       let over = is_closed P (env x) in
@@ -162,5 +162,5 @@ module _ (rows : List Cell) (bound : Bindings) (o u : Operand) (rel : Rel) (t : 
   pub literal_for : (x : VarId) (steps : List Step) → o ≡ operand.Path x steps → IsLiteral u → (p : ℕ) → IsPlace bound x.0 p → TellsLiteral rows p steps rel (literal_value u) t → Tells rows bound (comparison o rel u) t
   literal_for x steps e lit p is tells = subst (λ (z : Operand). Tells rows bound (comparison z rel u) t) (sym e) (literal_told rows bound t x.0 steps rel u p lit is tells)
 
-  pub flipped_for : (x : VarId) (steps : List Step) → u ≡ operand.Path x steps → IsLiteral o → (p : ℕ) → IsPlace bound x.0 p → (flipped : Rel) → ((v w : Value) → compare flipped w v ≡ compare rel v w) → TellsLiteral rows p steps flipped (literal_value o) t → Tells rows bound (comparison o rel u) t
+  pub flipped_for : (x : VarId) (steps : List Step) → u ≡ operand.Path x steps → IsLiteral o → (p : ℕ) → IsPlace bound x.0 p → (flipped : Rel) → ((v w : ComparedValue) → compare flipped w v ≡ compare rel v w) → TellsLiteral rows p steps flipped (literal_value o) t → Tells rows bound (comparison o rel u) t
   flipped_for x steps e lit p is flipped turned tells = subst (λ (z : Operand). Tells rows bound (comparison o rel z) t) (sym e) (flipped_told rows bound t x.0 steps rel flipped o p lit is turned tells)

@@ -4,7 +4,7 @@ use Rattle.std.specs.FinMap.{get}
 use Rattle.gcx_base.specs.declared.kind.Kind.{Kind}
 use Rattle.gcx_model.specs.Tree.{Node, serial_of, kind_of, above, Tree, opening, is_open_at}
 use Rattle.gcx_model.specs.Members.{In}
-use Rattle.gcx_model.specs.Core.{CondTree, Always, Exists, Compare, Not, All, Any, RoleRowTree}
+use Rattle.gcx_model.specs.Core.{CondTree, Always, Exists, Compare, Not, AllOf, AnyOf, RoleRowTree}
 use Rattle.gcx_model.specs.declared.truth.Truth.{Truth}
 use Rattle.gcx_model.specs.Truth.{Env, truth}
 use Rattle.gcx_model.specs.Roles.{cond_rows}
@@ -81,5 +81,5 @@ IsLeaf Always = ⊥
 IsLeaf (Exists x steps) = Unit {0}
 IsLeaf (Compare l rel r) = Unit {0}
 IsLeaf (Not c) = ⊥
-IsLeaf (All cs) = ⊥
-IsLeaf (Any cs) = ⊥
+IsLeaf (AllOf cs) = ⊥
+IsLeaf (AnyOf cs) = ⊥

@@ -7,7 +7,7 @@ use Rattle.gcx_model.specs.Paths.{matches, first, value}
 use Rattle.gcx_model.specs.Members.{In}
 use Rattle.gcx_model.specs.Core.{CondTree, Compare}
 use Rattle.gcx_model.specs.CondView.{operand_tree}
-use Rattle.gcx_model.specs.Values.{Value, compare}
+use Rattle.gcx_model.specs.Values.{ComparedValue, compare}
 use Rattle.gcx_model.specs.Answer.{is_any, some_pair}
 use Rattle.gcx_model.specs.Truth.{Env, node_value, settle, truth}
 use Rattle.gcx_model.specs.declared.cond.Operand.{Operand}
@@ -61,7 +61,7 @@ abbrev pub KeepsMatches : Tree → (Node → Bool) → Node → List Step → Ty
 KeepsMatches P keep n steps = (j : Node) → In j (matches P (serial_of n) steps) → IsWhole P keep j
 
 -- the values of the closed ones of them
-abbrev pub closed_values : Tree → Node → List Step → List Value
+abbrev pub closed_values : Tree → Node → List Step → List ComparedValue
 closed_values P n steps = map (node_value P) (filter (is_closed P) (matches P (serial_of n) steps))
 
 -- the members are nodes whose subtrees are kept
@@ -82,7 +82,7 @@ TellsPaths rows p left rel q right t = (P : Tree) (keep : Node → Bool) (n m : 
     → t ≡ settle (some_pair (compare rel) (closed_values P n left) (closed_values P m right)) (is_closed P n && is_closed P m)
 
 -- of a path and a literal
-abbrev pub TellsLiteral : List Cell → (p : ℕ) → List Step → Rel → Value → Truth → Type 0
+abbrev pub TellsLiteral : List Cell → (p : ℕ) → List Step → Rel → ComparedValue → Truth → Type 0
 TellsLiteral rows p steps rel v t = (P : Tree) (keep : Node → Bool) (n : Node) → NodeAt rows P keep p n → KeepsMatches P keep n steps → t ≡ settle (some_pair (compare rel) (closed_values P n steps) (v ∷ [])) (is_closed P n)
 
 -- the values of the members' nodes were taken as those of one side, which had none
@@ -96,5 +96,5 @@ TellsPair rows ls rel rs b = (P : Tree) (keep : Node → Bool) (ns ms : List Nod
     → b ≡ some_pair (compare rel) (map (node_value P) ns) (map (node_value P) ms)
 
 -- and of some member's value and this one
-abbrev pub TellsWith : List Cell → List Member → Rel → Value → Bool → Type 0
+abbrev pub TellsWith : List Cell → List Member → Rel → ComparedValue → Bool → Type 0
 TellsWith rows ms rel v b = (P : Tree) (keep : Node → Bool) (ns : List Node) → Readable rows P keep ms ns → b ≡ some_pair (compare rel) (map (node_value P) ns) (v ∷ [])

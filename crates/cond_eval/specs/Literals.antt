@@ -1,10 +1,10 @@
 -- The values of literals (this project's).
 use Rattle.std.specs.Prelude.{[]}
-use Rattle.gcx_model.specs.Values.{Value, Bytes, Units}
+use Rattle.gcx_model.specs.Values.{ComparedValue, Bytes, Units}
 use Rattle.gcx_model.specs.declared.cond.Operand.{Operand}
 use Rattle.gcx_model.specs.declared.cond.Operand.TheVariants as operand
 
-abbrev pub literal_value : Operand → Value
+abbrev pub literal_value : Operand → ComparedValue
 literal_value (operand.Path x steps) = Bytes []
 literal_value (operand.Str b) = Bytes b
 literal_value (operand.Num l) = Units l

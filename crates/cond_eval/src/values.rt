@@ -1,6 +1,6 @@
 //! String values of nodes, and their comparison with literals.
 ghost use Rattle.std.specs.Prelude.{◌≡◌, IfOk, IfSome, IsUtf8, OnOk, MatchOption};
-ghost use Rattle.gcx_model.specs.Values.{Value, Bytes, Units, compare};
+ghost use Rattle.gcx_model.specs.Values.{ComparedValue, Bytes, Units, compare};
 ghost use Rattle.gcx_model.specs.Members.{In};
 ghost use Rattle.gcx_base.specs.Kinds.{is_text};
 ghost use Rattle.buf_tree.specs.Shape.{Cell};
@@ -156,7 +156,7 @@ pub fn satisfies(value: &[u8], rel: Rel, literal: &Operand) -> bool
 
 /// The relation with its sides exchanged.
 pub fn flipped(rel: Rel) -> Rel
-    ensures { (v w : Value) → compare result w v ≡ compare rel v w }
+    ensures { (v w : ComparedValue) → compare result w v ≡ compare rel v w }
 {
     match rel {
         Rel::Eq => Rel::Eq,

@@ -6,7 +6,7 @@ use Rattle.gcx_base.specs.declared.rel.Rel.{Rel}
 use Rattle.gcx_base.specs.declared.steps.Step.{Step}
 use Rattle.gcx_model.specs.Core.{Compare, CondTree, Exists, Path}
 use Rattle.gcx_model.specs.CondView.{core_cond_tree, operand_tree}
-use Rattle.gcx_model.specs.Values.{Value, compare}
+use Rattle.gcx_model.specs.Values.{ComparedValue, compare}
 use Rattle.gcx_model.specs.declared.cond.Cond.{Cond}
 use Rattle.gcx_model.specs.declared.cond.Cond as declared
 use Rattle.gcx_model.specs.declared.cond.Operand.{Operand}
@@ -37,7 +37,7 @@ left_serves x steps rel o l = record {
       (h.0 ∙ left_truth P env x steps rel o l, (h.1, s.1));
 }
 
-right_serves : (x : ℕ) (steps : List Step) (rel flipped : Rel) (o : Operand) → IsLiteral o → ((v w : Value) → compare flipped w v ≡ compare rel v w) → Serves x steps (Some (ask_of flipped o)) (Compare (operand_tree o) rel (Path x steps))
+right_serves : (x : ℕ) (steps : List Step) (rel flipped : Rel) (o : Operand) → IsLiteral o → ((v w : ComparedValue) → compare flipped w v ≡ compare rel v w) → Serves x steps (Some (ask_of flipped o)) (Compare (operand_tree o) rel (Path x steps))
 right_serves x steps rel flipped o l turned = record {
   may = λ v bound k m. right_may v.rows v.nodes bound k k x steps rel flipped o l m;
   answers = λ v bound k ms qs t f P env s a.
@@ -51,7 +51,7 @@ exists_serves x steps c e = subst (λ (z : CondTree). Serves x.0 steps None z) (
 pub path_serves : (x : VarId) (steps : List Step) (l o : Operand) (rel : Rel) → l ≡ operand.Path x steps → IsLiteral o → Serves x.0 steps (Some (ask_of rel o)) (comparison l rel o)
 path_serves x steps l o rel e k = subst (λ (z : Operand). Serves x.0 steps (Some (ask_of rel o)) (comparison z rel o)) (sym e) (left_serves x.0 steps rel o k)
 
-pub literal_serves : (x : VarId) (steps : List Step) (o l : Operand) (rel flipped : Rel) → l ≡ operand.Path x steps → IsLiteral o → ((v w : Value) → compare flipped w v ≡ compare rel v w) → Serves x.0 steps (Some (ask_of flipped o)) (comparison o rel l)
+pub literal_serves : (x : VarId) (steps : List Step) (o l : Operand) (rel flipped : Rel) → l ≡ operand.Path x steps → IsLiteral o → ((v w : ComparedValue) → compare flipped w v ≡ compare rel v w) → Serves x.0 steps (Some (ask_of flipped o)) (comparison o rel l)
 literal_serves x steps o l rel flipped e k turned = subst (λ (z : Operand). Serves x.0 steps (Some (ask_of flipped o)) (comparison o rel z)) (sym e) (right_serves x.0 steps rel flipped o k turned)
 
 pub serves_about : (m : Mark) (x : VarId) (steps : List Step) (ask : Option Ask) (c : CondTree) → IsAbout m x steps ask → Serves x.0 steps ask c → Serves m.var.0 m.steps m.ask c

@@ -12,7 +12,7 @@ use Rattle.gcx_model.specs.Core.{OperandTree, Path, CondTree, Exists, Compare, R
 use Rattle.gcx_model.specs.CondView.{operand_tree, core_cond_tree}
 use Rattle.gcx_model.specs.declared.cond.Cond.{Cond}
 use Rattle.gcx_model.specs.declared.cond.Cond as declared
-use Rattle.gcx_model.specs.Values.{Value, Bytes, Units, compare}
+use Rattle.gcx_model.specs.Values.{ComparedValue, Bytes, Units, compare}
 use Rattle.gcx_model.specs.Answer.{some_pair}
 use Rattle.gcx_model.specs.Roles.{cond_rows}
 use Rattle.gcx_model.specs.Truth.{Env, settled_values, settle, truth}
@@ -64,12 +64,12 @@ left_truth P env x steps rel (operand.Path y path) l = absurd l
 left_truth P env x steps rel (operand.Str b) l = refl
 left_truth P env x steps rel (operand.Num u) l = refl
 
-turned_truth : (P : Tree) (n : Node) (vs : List Value) (rel flipped : Rel) → ((v w : Value) → compare flipped w v ≡ compare rel v w) → (v : Value)
+turned_truth : (P : Tree) (n : Node) (vs : List ComparedValue) (rel flipped : Rel) → ((v w : ComparedValue) → compare flipped w v ≡ compare rel v w) → (v : ComparedValue)
     → settle (some_pair (compare flipped) vs (v ∷ [])) (is_closed P n && true) ≡ settle (any (compare rel v) vs || false) (is_closed P n)
 turned_truth P n vs rel flipped turned v =
     ap (λ b. settle b (is_closed P n && true)) (any_flipped rel flipped turned v vs ∙ or_none (any (compare rel v) vs)) ∙ ap (λ b. settle (any (compare rel v) vs || false) b) (and_true (is_closed P n))
 
-pub right_truth : (P : Tree) (env : Env) (x : ℕ) (steps : List Step) (rel flipped : Rel) (o : Operand) → IsLiteral o → ((v w : Value) → compare flipped w v ≡ compare rel v w)
+pub right_truth : (P : Tree) (env : Env) (x : ℕ) (steps : List Step) (rel flipped : Rel) (o : Operand) → IsLiteral o → ((v w : ComparedValue) → compare flipped w v ≡ compare rel v w)
     → answer P steps (Some (ask_of flipped o)) (env x) ≡ truth (Compare (operand_tree o) rel (Path x steps)) env P
 right_truth P env x steps rel flipped (operand.Path y path) l turned = absurd l
 right_truth P env x steps rel flipped (operand.Str b) l turned = turned_truth P (env x) (settled_values P env (Path x steps)) rel flipped turned (Bytes b)
@@ -106,7 +106,7 @@ module _ (rows : List Cell) (nodes : ℕ) (bound : Bindings) (old new : Marked) 
       (h.0 ∙ left_truth P env x steps rel o l, (h.1, s.1))
   left_answers x steps rel o l (Err e) f = tt
 
-  pub right_answers : {E : Type 0} (x : ℕ) (steps : List Step) (rel flipped : Rel) (o : Operand) → IsLiteral o → ((v w : Value) → compare flipped w v ≡ compare rel v w) → (r : Result Truth E)
+  pub right_answers : {E : Type 0} (x : ℕ) (steps : List Step) (rel flipped : Rel) (o : Operand) → IsLiteral o → ((v w : ComparedValue) → compare flipped w v ≡ compare rel v w) → (r : Result Truth E)
       → IfOk r (FindsOf x steps (Some (ask_of flipped o))) → IfOk r (AnswersMarks (Compare (operand_tree o) rel (Path x steps)))
   right_answers x steps rel flipped o l turned (Ok t) f = λ P env s a.
       let h = f P a.keep (env x) s.0 (right_asks rows nodes bound P env s.1 x steps rel (operand_tree o) (ask_of flipped o) a) in
@@ -138,7 +138,7 @@ module _ (rows : List Cell) (nodes : ℕ) (bound : Bindings) (old new : Marked) 
   pub literal_may : (o l : Operand) (rel flipped : Rel) → l ≡ operand.Path x steps → IsLiteral o → MayAskMarks rows nodes bound old new (Compare (operand_tree o) rel (operand_tree l)) → MayFind old rows nodes bound x.0 steps (Some (ask_of flipped o))
   literal_may o l rel flipped e k m = right_may rows nodes bound old new x.0 steps rel flipped o k (subst (λ (c : CondTree). MayAskMarks rows nodes bound old new c) (right_is l e (operand_tree o) rel) m)
 
-  pub literal_answers : {E : Type 0} (o l : Operand) (rel flipped : Rel) → l ≡ operand.Path x steps → IsLiteral o → ((v w : Value) → compare flipped w v ≡ compare rel v w) → (r : Result Truth E)
+  pub literal_answers : {E : Type 0} (o l : Operand) (rel flipped : Rel) → l ≡ operand.Path x steps → IsLiteral o → ((v w : ComparedValue) → compare flipped w v ≡ compare rel v w) → (r : Result Truth E)
       → IfOk r (FindsOf rows nodes bound old new x.0 steps (Some (ask_of flipped o))) → IfOk r (AnswersMarks rows nodes bound old new (Compare (operand_tree o) rel (operand_tree l)))
   literal_answers {E} o l rel flipped e k turned r f =
       subst (λ (c : CondTree). IfOk {T = Truth} {E = E} r (AnswersMarks rows nodes bound old new c)) (sym (right_is l e (operand_tree o) rel)) (right_answers rows nodes bound old new x.0 steps rel flipped o k turned r f)

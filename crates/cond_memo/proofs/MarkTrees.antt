@@ -12,7 +12,7 @@ use Rattle.gcx_base.specs.Tests.{passes}
 use Rattle.gcx_model.specs.Paths.{lies, reach, hits, matches, value}
 use Rattle.gcx_model.specs.Members.{In}
 use Rattle.gcx_model.specs.Answer.{is_any, some_pair}
-use Rattle.gcx_model.specs.Values.{Value, Bytes, compare}
+use Rattle.gcx_model.specs.Values.{ComparedValue, Bytes, compare}
 use Rattle.gcx_model.specs.declared.truth.Truth.TheVariants.{True}
 use Rattle.gcx_model.specs.Truth.{Env, node_value, settled_values, is_over, settle}
 use Rattle.gcx_model.specs.CondView.{operand_tree}
@@ -117,10 +117,10 @@ any_none [] h = refl
 any_none (x ∷ xs) h = absurd (h x (inl refl))
 
 -- the values of the closed matches, compared with that of the literal
-abbrev pairs : Tree → Ask → List Node → List Value → Bool
+abbrev pairs : Tree → Ask → List Node → List ComparedValue → Bool
 pairs P a ms vs = some_pair (compare a.rel) (map (node_value P) (filter (is_closed P) ms)) vs
 
-pairs_found : (P : Tree) (a : Ask) (v : Value) (ms : List Node) (j : Node) → In j ms → is_closed P j ≡ true → compare a.rel (Bytes (value P j)) v ≡ true → pairs P a ms (v ∷ []) ≡ true
+pairs_found : (P : Tree) (a : Ask) (v : ComparedValue) (ms : List Node) (j : Node) → In j ms → is_closed P j ≡ true → compare a.rel (Bytes (value P j)) v ≡ true → pairs P a ms (v ∷ []) ≡ true
 pairs_found P a v [] j i c h = absurd i
 pairs_found P a v (m ∷ ms) j i c h = go (is_closed P m) refl i (λ k. pairs_found P a v ms j k c h)
   where
@@ -130,7 +130,7 @@ pairs_found P a v (m ∷ ms) j i c h = go (is_closed P m) refl i (λ k. pairs_fo
     go false e (inl f) ih = absurd (false≢true (sym e ∙ ap (is_closed P) f ∙ c))
     go false e (inr k) ih = ih k
 
-pairs_none : (P : Tree) (a : Ask) (v : Value) (ms : List Node) → ((j : Node) → In j ms → is_closed P j ≡ true → compare a.rel (Bytes (value P j)) v ≡ true → ⊥) → pairs P a ms (v ∷ []) ≡ false
+pairs_none : (P : Tree) (a : Ask) (v : ComparedValue) (ms : List Node) → ((j : Node) → In j ms → is_closed P j ≡ true → compare a.rel (Bytes (value P j)) v ≡ true → ⊥) → pairs P a ms (v ∷ []) ≡ false
 pairs_none P a v [] h = refl
 pairs_none P a v (m ∷ ms) h = go (is_closed P m) refl (pairs_none P a v ms (λ j i. h j (inr i)))
   where
@@ -162,7 +162,7 @@ module _ (P : Tree) (steps : List Step) (n : Node) where
 
   as_pairs : (a : Ask) → IsLiteral a.literal → answer P steps (Some a) n ≡ settle (pairs P a ms (literal_value a.literal ∷ [])) (is_closed P n)
   as_pairs a l =
-      ap (λ (vs : List Value). settle (pairs P a ms vs) (is_closed P n && is_over P (λ x. n) (operand_tree a.literal))) (literal_values P (λ x. n) a.literal l)
+      ap (λ (vs : List ComparedValue). settle (pairs P a ms vs) (is_closed P n && is_over P (λ x. n) (operand_tree a.literal))) (literal_values P (λ x. n) a.literal l)
       ∙ ap (λ (b : Bool). settle (pairs P a ms (literal_value a.literal ∷ [])) (is_closed P n && b)) (literal_over P (λ x. n) a.literal l)
       ∙ ap (λ (b : Bool). settle (pairs P a ms (literal_value a.literal ∷ [])) b) (and_true (is_closed P n))
 

@@ -207,7 +207,7 @@ impl Marked {
             Operand::Path {
                 var: other,
                 steps: others,
-            } => self.paired(alloc, env, buffer, (var, steps), rel, (*other, others)),
+            } => self.paired(alloc, env, buffer, (var, steps), (rel, *other, others)),
             _ => self.asked(alloc, env, buffer, var, steps, Some((rel, right))),
         }
     }
@@ -267,29 +267,29 @@ impl Marked {
         Ok(index)
     }
 
-    /// The truth of the comparison of these paths.
+    /// The truth of the comparison of these paths, the second of which comes with the relation.
     fn paired<N: NodeStore<Row>>(
         &mut self,
         alloc: Global,
         env: &Env,
         buffer: &Buffer<N>,
         left: (VarId, &Steps),
-        rel: Rel,
-        right: (VarId, &Steps),
+        right: (Rel, VarId, &Steps),
     ) -> Result<Truth, Memory>
-        requires { MayAskVariables buffer.now self.old env.now left.0.0 right.0.0 left.1.now right.1.now }
+        requires { MayAskVariables buffer.now self.old env.now left.0.0 right.1.0 left.1.now right.2.now }
         ensures answers { IfOk result (λ t. AnswersPaths buffer.now self.old self.new env.now
-            left.entry.0.0 left.entry.1.now rel right.entry.0.0 right.entry.1.now t) }
+            left.entry.0.0 left.entry.1.now right.entry.0 right.entry.1.0 right.entry.2.now t) }
         ensures last { IfOk result (λ _. self.new.last ≡ None) }
     {
+        let (rel, other, others) = right;
         self.last = None;
         let Some(one) = env.get(left.0) else {
             return Ok(Truth::Unknown);
         };
-        let Some(two) = env.get(right.0) else {
+        let Some(two) = env.get(other) else {
             return Ok(Truth::Unknown);
         };
-        let index = self.pair_of(alloc, left, rel, right)?;
+        let index = self.pair_of(alloc, left, rel, (other, others))?;
         let truth = self.pairs[index].ask(alloc, buffer, one, two, &mut self.room)?;
         Ok(truth)
     }

@@ -9,7 +9,7 @@ use Rattle.std.proofs.lemmas.List.Sums.{fold-append}
 use Rattle.gcx_base.specs.Characters.{is_char}
 use Rattle.gcx_model.specs.References as grammar
 use Rattle.gcx_model.specs.References.{Digits, no_digit, digit, digits_spelling, value_in, AreDigits, is_decimal, is_hexadecimal, worth, Reference, reference_spelling, reference_char, IsReference}
-use Rattle.doc_chars.specs.Reference.{number, all_digits, IsNumber, Refers, lt, gt, amp, apos, quot, decimal, hexadecimal}
+use Rattle.doc_chars.specs.Reference.{radix_value, all_digits, IsNumber, Refers, lt, gt, amp, apos, quot, by_decimal, by_hexadecimal}
 use Rattle.doc_chars.specs.Spelled.{SpellsReference, ReferencesAgree}
 
 -- digits of the grammar have the same value
@@ -55,7 +55,7 @@ module _ (radix : ℕ) (is_one : ℕ → Bool) (one : (c : ℕ) → is_digit c r
   all_are no_digit g = refl
   all_are (digit ds c) g = list_all-append (λ d. is_digit d radix) (digits_spelling ds) (c ∷ []) ∙ and_from (all_digits radix (digits_spelling ds)) _ (all_are ds g.0) (and_from (is_digit c radix) true (is c g.1) refl)
 
-  value_same : (ds : Digits) → AreDigits is_one ds → number radix (digits_spelling ds) ≡ value_in radix ds
+  value_same : (ds : Digits) → AreDigits is_one ds → radix_value radix (digits_spelling ds) ≡ value_in radix ds
   value_same no_digit g = refl
   value_same (digit ds c) g =
       fold-append (λ value digit. value * radix + digit_value digit) 0 (digits_spelling ds) (c ∷ [])
@@ -80,18 +80,18 @@ spells text c (gt e v) = record { reference = grammar.named grammar.greater_than
 spells text c (amp e v) = record { reference = grammar.named grammar.ampersand; good = tt; spelled = ap (λ l. 38 ∷ l) (sym e); stands_for = sym v }
 spells text c (apos e v) = record { reference = grammar.named grammar.apostrophe; good = tt; spelled = ap (λ l. 38 ∷ l) (sym e); stands_for = sym v }
 spells text c (quot e v) = record { reference = grammar.named grammar.quotation; good = tt; spelled = ap (λ l. 38 ∷ l) (sym e); stands_for = sym v }
-spells text c (decimal digits n e) =
+spells text c (by_decimal digits n e) =
     let g = digits_good 10 is_decimal decimal_is decimal_worth is_decimal_digit digits c n in
     record {
-      reference = grammar.decimal (as_digits no_digit digits);
+      reference = grammar.decimal_reference (as_digits no_digit digits);
       good = (g.0, char_there _ c g.1 n.char);
       spelled = ap (λ l. 38 ∷ (35 ∷ (l ++ 59 ∷ []))) (as_spelled no_digit digits) ∙ ap (λ l. 38 ∷ l) (sym e);
       stands_for = g.1;
     }
-spells text c (hexadecimal digits n e) =
+spells text c (by_hexadecimal digits n e) =
     let g = digits_good 16 is_hexadecimal hexadecimal_is hexadecimal_worth is_hexadecimal_digit digits c n in
     record {
-      reference = grammar.hexadecimal (as_digits no_digit digits);
+      reference = grammar.hexadecimal_reference (as_digits no_digit digits);
       good = (g.0, char_there _ c g.1 n.char);
       spelled = ap (λ l. 38 ∷ (35 ∷ (120 ∷ (l ++ 59 ∷ [])))) (as_spelled no_digit digits) ∙ ap (λ l. 38 ∷ l) (sym e);
       stands_for = g.1;
@@ -107,8 +107,8 @@ refers_by text c (grammar.named grammar.greater_than) g e v = gt (behind _ text 
 refers_by text c (grammar.named grammar.ampersand) g e v = amp (behind _ text e) (sym v)
 refers_by text c (grammar.named grammar.apostrophe) g e v = apos (behind _ text e) (sym v)
 refers_by text c (grammar.named grammar.quotation) g e v = quot (behind _ text e) (sym v)
-refers_by text c (grammar.decimal ds) g e v = decimal (digits_spelling ds) (number_of 10 is_decimal decimal_is decimal_worth is_decimal_digit ds c g.0 g.1 v) (behind _ text e)
-refers_by text c (grammar.hexadecimal ds) g e v = hexadecimal (digits_spelling ds) (number_of 16 is_hexadecimal hexadecimal_is hexadecimal_worth is_hexadecimal_digit ds c g.0 g.1 v) (behind _ text e)
+refers_by text c (grammar.decimal_reference ds) g e v = by_decimal (digits_spelling ds) (number_of 10 is_decimal decimal_is decimal_worth is_decimal_digit ds c g.0 g.1 v) (behind _ text e)
+refers_by text c (grammar.hexadecimal_reference ds) g e v = by_hexadecimal (digits_spelling ds) (number_of 16 is_hexadecimal hexadecimal_is hexadecimal_worth is_hexadecimal_digit ds c g.0 g.1 v) (behind _ text e)
 
 pub references_agree : ReferencesAgree
 references_agree text c = (spells text c, λ s. refers_by text c s.reference s.good s.spelled s.stands_for)

@@ -12,7 +12,7 @@ use Rattle.doc_chars.specs.declared.reference.Radix.{Radix}
 use Rattle.doc_chars.specs.declared.reference.Radix.TheVariants.{Decimal, Hexadecimal}
 use Rattle.doc_chars.specs.declared.reference.State.{State}
 use Rattle.doc_chars.specs.declared.reference.State.TheVariants.{Start, LetterA, Name, Number}
-use Rattle.doc_chars.specs.Reference.{number, all_digits, IsNumber, Refers, lt, amp, decimal, hexadecimal, BeginsReference}
+use Rattle.doc_chars.specs.Reference.{radix_value, all_digits, IsNumber, Refers, lt, amp, by_decimal, by_hexadecimal, BeginsReference}
 use Rattle.doc_chars.specs.References.{base_of, opening_of, spelling_of, character_of, IsValueOf, InNumber, InName, StandsForText}
 use Rattle.doc_chars.proofs.Names.{entity_refers}
 
@@ -74,23 +74,23 @@ closing text opening digits more is =
     ap (λ t. t ++ (more ++ 59 ∷ [])) is ∙ append_assoc opening digits (more ++ 59 ∷ []) ∙ ap (λ t. opening ++ t) (sym (append_assoc digits more (59 ∷ [])))
 
 refers_by : (radix : Radix) (text digits : List ℕ) (c : ℕ) → IsNumber (base_of radix) digits c → text ≡ opening_of radix ++ (digits ++ 59 ∷ []) → Refers text c
-refers_by Decimal text digits c n is = decimal digits n is
-refers_by Hexadecimal text digits c n is = hexadecimal digits n is
+refers_by Decimal text digits c n is = by_decimal digits n is
+refers_by Hexadecimal text digits c n is = by_hexadecimal digits n is
 
-value_small : (radix : ℕ) (value : Option ℕ) (digits : List ℕ) → IsValueOf radix value digits → number radix digits ≤ 1114111
-value_small radix None digits is = let zero : number radix digits ≡ 0 = ap (number radix) is in omega (arith, zero)
+value_small : (radix : ℕ) (value : Option ℕ) (digits : List ℕ) → IsValueOf radix value digits → radix_value radix digits ≤ 1114111
+value_small radix None digits is = let zero : radix_value radix digits ≡ 0 = ap (radix_value radix) is in omega (arith, zero)
 value_small radix (Some v) digits (some, is, most) = omega (arith, is, most)
 
-some_digits : (radix : ℕ) (value : Option ℕ) (digits more : List ℕ) → IsValueOf radix value digits → (number radix digits ≡ 0 → 0 < length more) → 0 < length (digits ++ more)
-some_digits radix None digits more is some = omega (arith, some (ap (number radix) is), length-append digits more)
+some_digits : (radix : ℕ) (value : Option ℕ) (digits more : List ℕ) → IsValueOf radix value digits → (radix_value radix digits ≡ 0 → 0 < length more) → 0 < length (digits ++ more)
+some_digits radix None digits more is some = omega (arith, some (ap (radix_value radix) is), length-append digits more)
 some_digits radix (Some v) digits more (any, is, most) some = omega (arith, any, length-append digits more)
 
 number_goes_on : (radix : Radix) (value : Option ℕ) (text : List ℕ) → InNumber radix value text → BeginsReference text
 number_goes_on radix value text n =
     let base = base_of radix in
-    let done = completes radix (number base n.digits) (value_small base value n.digits n.value_is) in
+    let done = completes radix (radix_value base n.digits) (value_small base value n.digits n.value_is) in
     let digits = n.digits ++ done.digits in
-    let c = fold (λ value digit. value * base + digit_value digit) (number base n.digits) done.digits in
+    let c = fold (λ value digit. value * base + digit_value digit) (radix_value base n.digits) done.digits in
     goes_by text (done.digits ++ 59 ∷ []) c (omega (arith, length-append done.digits (59 ∷ [])))
     (refers_by radix (text ++ (done.digits ++ 59 ∷ [])) digits c
     (record {

@@ -9,7 +9,7 @@ use Rattle.std.proofs.lemmas.List.Sums.{fold-append}
 use Rattle.gcx_base.specs.Characters.{is_char}
 use Rattle.doc_chars.specs.declared.reference.Radix.{Radix}
 use Rattle.doc_chars.specs.declared.reference.Radix.TheVariants.{Decimal, Hexadecimal}
-use Rattle.doc_chars.specs.Reference.{number, all_digits, IsNumber, Refers, lt, gt, amp, apos, quot, decimal, hexadecimal, NeverRefers}
+use Rattle.doc_chars.specs.Reference.{radix_value, all_digits, IsNumber, Refers, lt, gt, amp, apos, quot, by_decimal, by_hexadecimal, NeverRefers}
 use Rattle.doc_chars.specs.References.{base_of, opening_of, IsValueOf, InNumber}
 
 pub char_small : (c : ℕ) → is_char c ≡ true → c ≤ 1114111
@@ -25,8 +25,8 @@ grows (suc k) v (d ∷ digits) some =
     let least : v ≤ v * suc k = omega arith in
     omega arith
 
-value_or : (radix : ℕ) (value : Option ℕ) (digits : List ℕ) → IsValueOf radix value digits → unwrap_or value 0 ≡ number radix digits
-value_or radix None digits is = sym (ap (number radix) is)
+value_or : (radix : ℕ) (value : Option ℕ) (digits : List ℕ) → IsValueOf radix value digits → unwrap_or value 0 ≡ radix_value radix digits
+value_or radix None digits is = sym (ap (radix_value radix) is)
 value_or radix (Some v) digits (some, is, small) = sym is
 
 pub digit_in : (radix : ℕ) (digits : List ℕ) (c : ℕ) (rest : List ℕ) → all_digits radix (digits ++ c ∷ rest) ≡ true → is_digit c radix ≡ true
@@ -63,8 +63,8 @@ behind_hash rest d (gt e v) = let h : first (35 ∷ rest) ≡ 103 = ap first e i
 behind_hash rest d (amp e v) = let h : first (35 ∷ rest) ≡ 97 = ap first e in absurd (omega (arith, h))
 behind_hash rest d (apos e v) = let h : first (35 ∷ rest) ≡ 97 = ap first e in absurd (omega (arith, h))
 behind_hash rest d (quot e v) = let h : first (35 ∷ rest) ≡ 113 = ap first e in absurd (omega (arith, h))
-behind_hash rest d (decimal digits n e) = inl (digits, n, ap (drop 1) e)
-behind_hash rest d (hexadecimal digits n e) = inr (digits ++ 59 ∷ [], ap (drop 1) e, (digits, n, refl))
+behind_hash rest d (by_decimal digits n e) = inl (digits, n, ap (drop 1) e)
+behind_hash rest d (by_hexadecimal digits n e) = inr (digits ++ 59 ∷ [], ap (drop 1) e, (digits, n, refl))
 
 -- `x` is no decimal digit
 no_x : (digits rest r : List ℕ) → 0 < length digits → all_digits 10 digits ≡ true → digits ++ rest ≡ 120 ∷ r → ⊥
@@ -133,9 +133,9 @@ never_large radix value text c n digit large = never radix value text c n (behin
     too_large : (found : List ℕ) (rest : List ℕ) (d : ℕ) → IsNumber (base_of radix) found d → found ≡ n.digits ++ c ∷ rest → ⊥
     too_large found rest d is e =
         let base = base_of radix in
-        let parts : number base found ≡ fold (λ value digit. value * base + digit_value digit) (number base n.digits * base + digit_value c) rest =
-        ap (number base) e ∙ fold-append (λ value digit. value * base + digit_value digit) 0 n.digits (c ∷ rest) in
-        let least = grows base (number base n.digits * base + digit_value c) rest (base_some radix) in
+        let parts : radix_value base found ≡ fold (λ value digit. value * base + digit_value digit) (radix_value base n.digits * base + digit_value c) rest =
+        ap (radix_value base) e ∙ fold-append (λ value digit. value * base + digit_value digit) 0 n.digits (c ∷ rest) in
+        let least = grows base (radix_value base n.digits * base + digit_value c) rest (base_some radix) in
         let same = ap (λ v. v * base + digit_value c) (value_or base value n.digits n.value_is) in
         let small = char_small d is.char in
         let value_is = is.value in
@@ -183,8 +183,8 @@ never_other radix value text c n no_digit no_end no_start = never_digit radix va
 -- ---- how digits go on
 
 pub closes : (radix : Radix) (v : ℕ) (text : List ℕ) → InNumber radix (Some v) text → is_char v ≡ true → Refers (text ++ 59 ∷ []) v
-closes Decimal v text n char = decimal n.digits (record { some = n.value_is.0; are = n.are; value = n.value_is.1; char = char }) (ap (λ t. t ++ 59 ∷ []) n.text_is)
-closes Hexadecimal v text n char = hexadecimal n.digits (record { some = n.value_is.0; are = n.are; value = n.value_is.1; char = char }) (ap (λ t. t ++ 59 ∷ []) n.text_is)
+closes Decimal v text n char = by_decimal n.digits (record { some = n.value_is.0; are = n.are; value = n.value_is.1; char = char }) (ap (λ t. t ++ 59 ∷ []) n.text_is)
+closes Hexadecimal v text n char = by_hexadecimal n.digits (record { some = n.value_is.0; are = n.are; value = n.value_is.1; char = char }) (ap (λ t. t ++ 59 ∷ []) n.text_is)
 
 pub closes_at : (radix : Radix) (value : Option ℕ) (v c : ℕ) (text : List ℕ) → InNumber radix value text → c ≡ 59 → value ≡ Some v → is_char v ≡ true → Refers (text ++ c ∷ []) v
 closes_at radix value v c text n end is char =

@@ -2,7 +2,7 @@
 use Rattle.std.proofs.Common.{◌≡◌, ◌≢◌, ◌⊎◌, ◌∷◌, [], ℕ, List, get_or, refl, ap, arith, inl, inr}
 use Rattle.doc_chars.specs.declared.reference.Entity.{Entity}
 use Rattle.doc_chars.specs.declared.reference.Entity.TheVariants.{Lt, Gt, Amp, Apos, Quot}
-use Rattle.doc_chars.specs.Reference.{Refers, lt, gt, amp, apos, quot, decimal, hexadecimal, NeverRefers}
+use Rattle.doc_chars.specs.Reference.{Refers, lt, gt, amp, apos, quot, by_decimal, by_hexadecimal, NeverRefers}
 use Rattle.doc_chars.specs.References.{spelling_of, character_of}
 
 abbrev pub letter : ℕ → List ℕ → ℕ
@@ -22,8 +22,8 @@ kind_of text d (gt e v) = inl (Gt, e, v)
 kind_of text d (amp e v) = inl (Amp, e, v)
 kind_of text d (apos e v) = inl (Apos, e, v)
 kind_of text d (quot e v) = inl (Quot, e, v)
-kind_of text d (decimal digits n e) = inr (ap (letter 0) e)
-kind_of text d (hexadecimal digits n e) = inr (ap (letter 0) e)
+kind_of text d (by_decimal digits n e) = inr (ap (letter 0) e)
+kind_of text d (by_hexadecimal digits n e) = inr (ap (letter 0) e)
 
 -- ---- the first letters
 

@@ -5,8 +5,8 @@ use Rattle.std.specs.Char.{is_digit, digit_value}
 use Rattle.gcx_base.specs.Characters.{is_char}
 
 -- the value of digits, 0 where there are none
-abbrev pub number : ℕ → List ℕ → ℕ
-number radix digits = fold (λ value digit. value * radix + digit_value digit) 0 digits
+abbrev pub radix_value : ℕ → List ℕ → ℕ
+radix_value radix digits = fold (λ value digit. value * radix + digit_value digit) 0 digits
 
 abbrev pub all_digits : ℕ → List ℕ → Bool
 all_digits radix digits = list_all (λ c. is_digit c radix) digits
@@ -15,7 +15,7 @@ all_digits radix digits = list_all (λ c. is_digit c radix) digits
 pub record IsNumber (radix : ℕ) (digits : List ℕ) (c : ℕ) : Type 0 where
   pub some : 0 < length digits
   pub are : all_digits radix digits ≡ true
-  pub value : number radix digits ≡ c
+  pub value : radix_value radix digits ≡ c
   pub char : is_char c ≡ true
 
 -- the characters are a whole reference, which stands for c
@@ -25,8 +25,8 @@ pub data Refers (text : List ℕ) (c : ℕ) : Type 0 where
   amp : text ≡ codes "amp;" → c ≡ 38 → Refers text c
   apos : text ≡ codes "apos;" → c ≡ 39 → Refers text c
   quot : text ≡ codes "quot;" → c ≡ 34 → Refers text c
-  decimal : (digits : List ℕ) → IsNumber 10 digits c → text ≡ codes "#" ++ (digits ++ codes ";") → Refers text c
-  hexadecimal : (digits : List ℕ) → IsNumber 16 digits c → text ≡ codes "#x" ++ (digits ++ codes ";") → Refers text c
+  by_decimal : (digits : List ℕ) → IsNumber 10 digits c → text ≡ codes "#" ++ (digits ++ codes ";") → Refers text c
+  by_hexadecimal : (digits : List ℕ) → IsNumber 16 digits c → text ≡ codes "#x" ++ (digits ++ codes ";") → Refers text c
 
 -- a reference begins with these characters, and is longer
 pub record BeginsReference (text : List ℕ) : Type 0 where

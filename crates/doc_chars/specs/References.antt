@@ -1,14 +1,14 @@
 -- What is known of a reference whose first characters were read.
 use Rattle.std.specs.Prelude.{◌≡◌, ◌<◌, ◌≤◌, ℕ, true, List, [], ◌++◌, length, take, Option, Some, None, codes}
 use Rattle.doc_chars.specs.declared.reference.RefStep.{RefStep}
-use Rattle.doc_chars.specs.declared.reference.RefStep.TheVariants.{More, Done, Bad}
+use Rattle.doc_chars.specs.declared.reference.RefStep.TheVariants as ref_step
 use Rattle.doc_chars.specs.declared.reference.Entity.{Entity}
 use Rattle.doc_chars.specs.declared.reference.Entity.TheVariants.{Lt, Gt, Amp, Apos, Quot}
 use Rattle.doc_chars.specs.declared.reference.Radix.{Radix}
 use Rattle.doc_chars.specs.declared.reference.Radix.TheVariants.{Decimal, Hexadecimal}
 use Rattle.doc_chars.specs.declared.reference.State.{State}
 use Rattle.doc_chars.specs.declared.reference.State.TheVariants.{Start, LetterA, Name, Number}
-use Rattle.doc_chars.specs.Reference.{number, all_digits, Refers, BeginsReference, NeverRefers}
+use Rattle.doc_chars.specs.Reference.{radix_value, all_digits, Refers, BeginsReference, NeverRefers}
 
 abbrev pub spelling_of : Entity → List ℕ
 spelling_of Lt = codes "lt;"
@@ -43,7 +43,7 @@ opening_of Hexadecimal = codes "#x"
 -- the value of the digits, if there are any; no Char is above #x10FFFF
 abbrev pub IsValueOf : ℕ → Option ℕ → List ℕ → Type 0
 IsValueOf radix None digits = digits ≡ []
-IsValueOf radix (Some value) digits = (0 < length digits) × (number radix digits ≡ value) × (value ≤ 0x10FFFF)
+IsValueOf radix (Some value) digits = (0 < length digits) × (radix_value radix digits ≡ value) × (value ≤ 0x10FFFF)
 
 -- digits of this value behind the opening
 pub record InNumber (radix : Radix) (value : Option ℕ) (text : List ℕ) : Type 0 where
@@ -67,15 +67,15 @@ StandsForText (Number radix value) text = InNumber radix value text
 
 -- the answer is that for these characters
 abbrev pub Answers : RefStep → State → List ℕ → Type 0
-Answers More state text = BeginsReference text × StandsForText state text
-Answers (Done c) state text = Refers text c
-Answers Bad state text = NeverRefers text
+Answers ref_step.More state text = BeginsReference text × StandsForText state text
+Answers (ref_step.Done c) state text = Refers text c
+Answers ref_step.Bad state text = NeverRefers text
 
 -- the state stays where nothing goes on
 abbrev pub Stays : RefStep → State → State → Type 0
-Stays More old new = Unit {0}
-Stays (Done c) old new = new ≡ old
-Stays Bad old new = new ≡ old
+Stays ref_step.More old new = Unit {0}
+Stays (ref_step.Done c) old new = new ≡ old
+Stays ref_step.Bad old new = new ≡ old
 
 -- the value has at most as many as a character
 abbrev pub IsSoundValue : Option ℕ → Type 0

@@ -104,8 +104,7 @@ impl Chars {
     /// The characters of the next piece of the stream. After a fault the value is as before the call.
     pub fn split(&mut self, piece: &[u8]) -> Split
         requires { self.old.seen + length piece.now < 2 ^ 64 }
-        ensures in_order { result.used ≤ result.whole }
-        ensures within { result.whole ≤ length piece.now }
+        ensures within { (result.used ≤ result.whole) × (result.whole ≤ length piece.now) }
         ensures text { IsUtf8 (slice_range piece.now result.used result.whole) }
 
         // What is given are Chars.

@@ -5,7 +5,7 @@ use Rattle.std.specs.List.{list_all}
 use Rattle.std.proofs.lemmas.Bool.{false≢true, and_parts, and_from, or_cases}
 use Rattle.gcx_base.specs.Characters.{between, is_char, is_white, is_ascii_start, is_wide_start, is_start_char, is_part_char}
 use Rattle.gcx_base.specs.declared.limits.Limits.{Limits}
-use Rattle.gcx_model.specs.References.{Entity, less_than, greater_than, ampersand, apostrophe, quotation, entity_name, Digits, no_digit, digit, digits_spelling, is_decimal, is_hexadecimal, AreDigits, Reference, named, decimal, hexadecimal, reference_spelling, IsReference}
+use Rattle.gcx_model.specs.References.{Entity, less_than, greater_than, ampersand, apostrophe, quotation, entity_name, Digits, no_digit, digit, digits_spelling, is_decimal, is_hexadecimal, AreDigits, Reference, named, decimal_reference, hexadecimal_reference, reference_spelling, IsReference}
 use Rattle.gcx_model.specs.Attributes.{is_name, is_blank_text, is_gap, is_quote, is_text_char, AttributeValue, blank_value, value_char, value_reference, Attributes, no_attribute, attribute, value_spelling, head_spelling, attributes_spelling, IsValue, IsAttributes}
 use Rattle.gcx_model.specs.Markup.{CommentText, blank_comment, plain, dashed, comment_spelling, IsCommentText, CDSect, blank_cdsect, further, cdsect_spelling, IsCDSect, InstructionData, blank_data, data_char, data_spelling, IsInstructionData, Declaration, blank_declaration, doc_char, literal, declaration_spelling, IsDeclaration, is_literal_char, comment_start, cdata_start, doc_start}
 use Rattle.gcx_model.specs.Grammar.{Content, nothing, mark, space, char, reference, cdata, comment, bare, instruction, doctype, single, tagged, start_tag_spelling, end_tag_spelling, spelling, IsContent, Viable}
@@ -122,8 +122,8 @@ digits_chars p h (digit ds c) g = both (digits_spelling ds) (c ∷ []) (digits_c
 
 reference_chars : (r : Reference) → IsReference r → Chars (reference_spelling r)
 reference_chars (named e) g = cons 38 _ refl (both (entity_name e) (59 ∷ []) (entity_chars e) (known refl))
-reference_chars (decimal ds) g = cons 38 _ refl (cons 35 _ refl (both (digits_spelling ds) (59 ∷ []) (digits_chars is_decimal decimal_is_char ds g.0) (known refl)))
-reference_chars (hexadecimal ds) g = cons 38 _ refl (cons 35 _ refl (cons 120 _ refl (both (digits_spelling ds) (59 ∷ []) (digits_chars is_hexadecimal hexadecimal_is_char ds g.0) (known refl))))
+reference_chars (decimal_reference ds) g = cons 38 _ refl (cons 35 _ refl (both (digits_spelling ds) (59 ∷ []) (digits_chars is_decimal decimal_is_char ds g.0) (known refl)))
+reference_chars (hexadecimal_reference ds) g = cons 38 _ refl (cons 35 _ refl (cons 120 _ refl (both (digits_spelling ds) (59 ∷ []) (digits_chars is_hexadecimal hexadecimal_is_char ds g.0) (known refl))))
 
 value_chars : (q : ℕ) (v : AttributeValue) → IsValue q v → Chars (value_spelling v)
 value_chars q blank_value g = known refl

@@ -2,32 +2,32 @@
 use Rattle.std.proofs.Common.{ℕ, ◌≡◌, ◌+◌, ◌≤◌, Bool, true, false, cond, List, [], ◌∷◌, ◌++◌, length, Option, Some, None, ap, ◌∙◌, arith, length-append}
 use lib.Utf8.{encodes, encode}
 use Rattle.gcx_model.specs.Document.{Nodes, none, element, is_blank, tokens}
-use Rattle.gcx_model.specs.Tree.{Node, Root, Under, Tree, Token, Start, Chars, End, grow, grow_at, grow_all}
-use Rattle.gcx_model.specs.References.{Reference, named, decimal, hexadecimal, reference_spelling}
+use Rattle.gcx_model.specs.Tree.{Node, Root, Under, Tree, TreeToken, Start, Chars, End, grow, grow_at, grow_all}
+use Rattle.gcx_model.specs.References.{Reference, named, decimal_reference, hexadecimal_reference, reference_spelling}
 use Rattle.gcx_model.specs.Attributes.{Head, Attributes, no_attribute, attribute, value_spelling, head_spelling, attributes_spelling, value_run}
 use Rattle.gcx_model.specs.Grammar.{Content, nothing, mark, space, char, reference, cdata, comment, bare, instruction, doctype, single, tagged, start_tag_spelling, single_tag, end_tag_spelling, spelling, text_run, with_run, joined, attribute_nodes, nodes}
 use Rattle.gcx_model.specs.Fronts.{Frames, bottom, frame, frames_spelling, text_of, frames_tokens, seen_tokens}
 use Rattle.doc_laws.proofs.Moves.{tokens-joined, tokens-with_run}
 
 -- how many nodes the tokens open
-abbrev pub opens : List Token → ℕ
+abbrev pub opens : List TreeToken → ℕ
 opens [] = 0
 opens (Start name ∷ ts) = 1 + opens ts
 opens (Chars bytes ∷ ts) = 1 + opens ts
 opens (End ∷ ts) = opens ts
 
-pub opens-append : (ts us : List Token) → opens (ts ++ us) ≡ opens ts + opens us
+pub opens-append : (ts us : List TreeToken) → opens (ts ++ us) ≡ opens ts + opens us
 opens-append [] us = omega arith
 opens-append (Start name ∷ ts) us = let e = opens-append ts us in omega arith
 opens-append (Chars bytes ∷ ts) us = let e = opens-append ts us in omega arith
 opens-append (End ∷ ts) us = opens-append ts us
 
 -- a token adds that many nodes at most
-pub opens_nodes : (ts : List Token) (P : Tree) → length (grow_all ts P).nodes ≤ length P.nodes + opens ts
+pub opens_nodes : (ts : List TreeToken) (P : Tree) → length (grow_all ts P).nodes ≤ length P.nodes + opens ts
 opens_nodes [] P = omega arith
 opens_nodes (t ∷ ts) P = let r = opens_nodes ts (grow t P) in let s = one P.at t P in let e = opens-append (t ∷ []) ts in omega arith
   where
-    one : (at : Option Node) (t : Token) (P : Tree) → length (grow_at at t P).nodes ≤ length P.nodes + opens (t ∷ [])
+    one : (at : Option Node) (t : TreeToken) (P : Tree) → length (grow_at at t P).nodes ≤ length P.nodes + opens (t ∷ [])
     one None t P = omega arith
     one (Some p) (Start name) P = omega (arith, length-append P.nodes)
     one (Some p) (Chars b) P = omega (arith, length-append P.nodes)
@@ -44,8 +44,8 @@ text_one r = go (is_blank r)
 
 reference_long : (r : Reference) → 1 ≤ length (reference_spelling r)
 reference_long (named e) = omega arith
-reference_long (decimal ds) = omega arith
-reference_long (hexadecimal ds) = omega arith
+reference_long (decimal_reference ds) = omega arith
+reference_long (hexadecimal_reference ds) = omega arith
 
 run_opens : (ns : Nodes) (r : List ℕ) → opens (tokens (with_run ns r)) ≡ opens (tokens ns) + opens (text_of r)
 run_opens ns r = ap opens (tokens-with_run ns r) ∙ opens-append (tokens ns) (text_of r)

@@ -3,26 +3,26 @@ use Rattle.std.proofs.Common.{ℕ, ◌≡◌, cond, List, [], ◌∷◌, Option,
 use lib.Utf8.{encode}
 use Rattle.gcx_base.specs.Limits.{full_limits}
 use Rattle.gcx_base.specs.declared.limits.Limits.{Limits}
-use Rattle.gcx_model.specs.Tree.{Token, Start, Chars, End}
-use Rattle.gcx_model.specs.Faults.{Refusal, AtSyntax, AtDepth, AtName, AtText}
+use Rattle.gcx_model.specs.Tree.{TreeToken, Start, Chars, End}
+use Rattle.gcx_model.specs.Faults.{DocumentRefusal, AtSyntax, AtDepth, AtName, AtText}
 use Rattle.doc_laws.specs.Machine.{State, start, is_whole}
 use Rattle.doc_laws.specs.Judging.{judged_steps}
 
 abbrev small : ℕ → ℕ → ℕ → Limits
 small depth name text = record { bytes = 100; depth = depth; name = name; text = text }
 
-abbrev refused_by : Result State Refusal → Option Refusal
+abbrev refused_by : Result State DocumentRefusal → Option DocumentRefusal
 refused_by (Ok s) = None
 refused_by (Err f) = Some f
 
-abbrev refusal_of : Limits → List ℕ → Option Refusal
+abbrev refusal_of : Limits → List ℕ → Option DocumentRefusal
 refusal_of lim cs = refused_by (judged_steps lim 0 start cs)
 
-abbrev tokens_by : Result State Refusal → Option (List Token)
+abbrev tokens_by : Result State DocumentRefusal → Option (List TreeToken)
 tokens_by (Ok s) = cond (is_whole s) (Some s.tokens) None
 tokens_by (Err f) = None
 
-abbrev tokens_of : List ℕ → Option (List Token)
+abbrev tokens_of : List ℕ → Option (List TreeToken)
 tokens_of cs = tokens_by (judged_steps full_limits 0 start cs)
 
 -- <a/>

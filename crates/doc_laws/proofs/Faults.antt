@@ -11,8 +11,8 @@ use Rattle.gcx_model.specs.Markup.{is_doc_char, is_literal_char}
 use Rattle.gcx_model.specs.Grammar.{Content, has_element, may_open, Viable}
 use Rattle.gcx_model.specs.Fronts.{Frames, bottom, frame, Part, spaced, part_name, Piece, no_piece, less, started, tag, names, is_inside, inside, depth, OpensFrames, IsFront, front_spelling, frames_spelling, part_naming, naming, piece_run}
 use Rattle.gcx_model.specs.Grammar.{spelling}
-use Rattle.gcx_model.specs.Faults.{Refusal, AtSyntax, AtDepth, AtName, AtText, size, IsFullTag, IsFullAttribute, IsDeep, Comes, Clean, ComesFirst}
-use Rattle.doc_laws.specs.Machine.{Referred, More, Done, Bad, Referring, Mode, Opening, Between, Less, StartName, StartSpace, AttributeName, AttributeSpace, Equals, InValue, InValueReference, ValueEnd, Slash, EndName, EndSpace, Question, Target, TargetMark, InInstruction, DocWord, DocSpace, Doc, DocLiteral, Bang, BangDash, Comment, CommentDash, CommentEnd, CDSectWord, InCDSect, InReference, State, start, begun, on_between, on_tag, on_named, on_ended, on_referred, refer, behind, to_end_name, on_end, on_word, on_mode, steps, step, go_on}
+use Rattle.gcx_model.specs.Faults.{DocumentRefusal, AtSyntax, AtDepth, AtName, AtText, size, IsFullTag, IsFullAttribute, IsDeep, Comes, Clean, ComesFirst}
+use Rattle.doc_laws.specs.Machine.{Referred, More, Done, Bad, ReferenceRead, MachineMode, Opening, Between, Less, StartName, StartSpace, AttributeName, AttributeSpace, Equals, InValue, InValueReference, ValueEnd, Slash, EndName, EndSpace, Question, Target, TargetMark, InInstruction, DocWord, DocSpace, Doc, DocLiteral, Bang, BangDash, Comment, CommentDash, CommentEnd, CDSectWord, InCDSect, InReference, State, start, begun, on_between, on_tag, on_named, on_ended, on_referred, refer, behind, to_end_name, on_end, on_word, on_mode, steps, step, go_on}
 use Rattle.doc_laws.specs.States.{part_mode, piece_mode, is_opening, rooted, state_of, Fronts}
 use Rattle.doc_laws.specs.Judging.{naming_by, begins_deep, is_deep, deep_place, judged_by, judged, on_ok, judged_steps, Told}
 use Rattle.doc_laws.proofs.Tests.{at}
@@ -65,11 +65,11 @@ keeps_cond : (s : State) (b : Bool) (x y : Option State) → Keeps s x → Keeps
 keeps_cond s true x y h k = h
 keeps_cond s false x y h k = k
 
-keeps_word : (s : State) (c : ℕ) (mk : List ℕ → Mode) (left : List ℕ) (y : Option State) → ((l : List ℕ) → Keeps s (Some (record s { mode = mk l }))) → Keeps s y → Keeps s (on_word s c mk left y)
+keeps_word : (s : State) (c : ℕ) (mk : List ℕ → MachineMode) (left : List ℕ) (y : Option State) → ((l : List ℕ) → Keeps s (Some (record s { mode = mk l }))) → Keeps s y → Keeps s (on_word s c mk left y)
 keeps_word s c mk (d ∷ left) y k h = keeps_cond s (eqb c d) _ _ (k left) tt
 keeps_word s c mk [] y k h = h
 
-keeps_referred : (s : State) (mk : Referring → Mode) (m : Mode) (a : Referred) → ((r : Referring) → Keeps s (Some (record s { mode = mk r }))) → ((c : ℕ) → Keeps s (Some (record s { mode = m; run = s.run ++ encode c }))) → Keeps s (on_referred s mk m a)
+keeps_referred : (s : State) (mk : ReferenceRead → MachineMode) (m : MachineMode) (a : Referred) → ((r : ReferenceRead) → Keeps s (Some (record s { mode = mk r }))) → ((c : ℕ) → Keeps s (Some (record s { mode = m; run = s.run ++ encode c }))) → Keeps s (on_referred s mk m a)
 keeps_referred s mk m (More r) h k = h r
 keeps_referred s mk m (Done c) h k = k c
 keeps_referred s mk m Bad h k = tt
@@ -105,7 +105,7 @@ k3 s a b c x y z h k l = keeps_cond s a x _ h (k2 s b c y z k l)
 keeps_between : (s : State) (c : ℕ) → Keeps s (on_between s c)
 keeps_between s c = keeps_cond s (is_text_char c && is_inside s.names) _ _ (inl refl) (k3 s (is_white c && not (is_inside s.names)) (eqb c 60) (eqb c 38 && is_inside s.names) _ _ _ (inl refl) (inl refl) (inl refl))
 
-keeps_mode : (s : State) (c : ℕ) (m : Mode) → Keeps s (on_mode s c m)
+keeps_mode : (s : State) (c : ℕ) (m : MachineMode) → Keeps s (on_mode s c m)
 keeps_mode s c Opening = keeps_cond s (eqb c 65279) _ _ (inl refl) (keeps_between s c)
 keeps_mode s c Between = keeps_between s c
 keeps_mode s c Less = keeps_cond s (is_start_char c && may_open (is_inside s.names) s.rooted) _ _ (inr refl) (k3 s (eqb c 47 && is_inside s.names) (eqb c 33) (eqb c 63) _ _ _ (inl refl) (inl refl) (inl refl))
@@ -147,7 +147,7 @@ named_short lim s t c e short h =
       | inr k ↦ le-ltb lim.text (length t.run) (subst (λ l. length l ≤ lim.text) (sym k) short)
     ]
 
-pub judged_is : (lim : Limits) (k : ℕ) (s : State) (c : ℕ) (o : Option State) (r : Result State Refusal) → step s c ≡ o → judged_by lim k s c o ≡ r → judged lim k s c ≡ r
+pub judged_is : (lim : Limits) (k : ℕ) (s : State) (c : ℕ) (o : Option State) (r : Result State DocumentRefusal) → step s c ≡ o → judged_by lim k s c o ≡ r → judged lim k s c ≡ r
 judged_is lim k s c o r e f = ap (judged_by lim k s c) e ∙ f
 
 pub size_more : (xs : List ℕ) (c : ℕ) → size (xs ++ (c ∷ [])) ≡ size xs + len_utf8 c
@@ -220,7 +220,7 @@ long_some : (lim : Limits) (l : List ℕ) → lim.name < length l → l ≡ [] �
 long_some lim l h e = let z : length l ≡ 0 = ap length e in omega arith
 
 -- a fault that comes is the judged step's refusal
-pub comes_refusal : (lim : Limits) (front : List ℕ) (c : ℕ) (s : State) (f : Refusal) → Fronts front s → length s.run ≤ lim.text → Comes lim front c f → judged lim (size front) s c ≡ Err f
+pub comes_refusal : (lim : Limits) (front : List ℕ) (c : ℕ) (s : State) (f : DocumentRefusal) → Fronts front s → length s.run ≤ lim.text → Comes lim front c f → judged lim (size front) s c ≡ Err f
 comes_refusal lim front c s (AtSyntax k) g short h =
     elim (step s c) as (λ (o : Option State). step s c ≡ o → judged lim (size front) s c ≡ Err (AtSyntax k)) [
       | None ↦ λ d. judged_is lim (size front) s c None _ d (ap (λ n. Err (AtSyntax n)) (sym h.0))
@@ -265,16 +265,16 @@ comes_refusal lim front c s (AtText k) g short h =
     judged_is lim (size front) s c (Some u) _ d (cond-true _ _ _ (lt-ltb lim.text (length (piece_run r.content r.piece)) r.is) ∙ ap (λ n. Err (AtText n)) (sym h.0))
 
 -- no fault comes where the judged step goes on
-pub none_comes : (lim : Limits) (front : List ℕ) (c : ℕ) (s t : State) (f : Refusal) → Fronts front s → length s.run ≤ lim.text → judged lim (size front) s c ≡ Ok t → Comes lim front c f → ⊥
+pub none_comes : (lim : Limits) (front : List ℕ) (c : ℕ) (s t : State) (f : DocumentRefusal) → Fronts front s → length s.run ≤ lim.text → judged lim (size front) s c ≡ Ok t → Comes lim front c f → ⊥
 none_comes lim front c s t f g short e h = apart (sym (comes_refusal lim front c s f g short h) ∙ e)
   where
-    apart : ◌≡◌ {A = Result State Refusal} (Err f) (Ok t) → ⊥
+    apart : ◌≡◌ {A = Result State DocumentRefusal} (Err f) (Ok t) → ⊥
     apart e = cc
 
-pub err_ok : {X : Type 0} (f : Refusal) (t : State) → Err f ≡ Ok t → X
+pub err_ok : {X : Type 0} (f : DocumentRefusal) (t : State) → Err f ≡ Ok t → X
 err_ok f t e = let absurdity : ⊥ = cc in absurd absurdity
 
-ok_err : {X : Type 0} (f : Refusal) (t : State) → Ok t ≡ Err f → X
+ok_err : {X : Type 0} (f : DocumentRefusal) (t : State) → Ok t ≡ Err f → X
 ok_err f t e = let absurdity : ⊥ = cc in absurd absurdity
 
 abbrev long_text : Limits → State → Bool
@@ -283,19 +283,19 @@ long_text lim t = nat_lt lim.text (length t.run)
 abbrev long_name : Limits → State → Bool
 long_name lim t = nat_lt lim.name (length (naming_by t.mode t))
 
-abbrev SameErr : Refusal → Refusal → Type 0
-SameErr g f = ◌≡◌ {A = Result State Refusal} (Err g) (Err f)
+abbrev SameErr : DocumentRefusal → DocumentRefusal → Type 0
+SameErr g f = ◌≡◌ {A = Result State DocumentRefusal} (Err g) (Err f)
 
-err_is : (g f : Refusal) → SameErr g f → g ≡ f
+err_is : (g f : DocumentRefusal) → SameErr g f → g ≡ f
 err_is g f e = cc
 
 -- which refusal a judged step gives
-pub data Why (lim : Limits) (k : ℕ) (s : State) (c : ℕ) (t : State) (f : Refusal) : Type 0 where
+pub data Why (lim : Limits) (k : ℕ) (s : State) (c : ℕ) (t : State) (f : DocumentRefusal) : Type 0 where
   why_text : long_text lim t ≡ true → AtText k ≡ f → Why lim k s c t f
   why_depth : is_deep lim s c ≡ true → AtDepth (deep_place k s.mode) ≡ f → Why lim k s c t f
   why_name : is_deep lim s c ≡ false → long_name lim t ≡ true → AtName k ≡ f → Why lim k s c t f
 
-why : (lim : Limits) (k : ℕ) (s : State) (c : ℕ) (t : State) (f : Refusal) → judged_by lim k s c (Some t) ≡ Err f → Why lim k s c t f
+why : (lim : Limits) (k : ℕ) (s : State) (c : ℕ) (t : State) (f : DocumentRefusal) → judged_by lim k s c (Some t) ≡ Err f → Why lim k s c t f
 why lim k s c t f e = by (long_text lim t) (is_deep lim s c) (long_name lim t) refl refl refl e
   where
     by : (a b d : Bool) → long_text lim t ≡ a → is_deep lim s c ≡ b → long_name lim t ≡ d → cond a (Err (AtText k)) (cond b (Err (AtDepth (deep_place k s.mode))) (cond d (Err (AtName k)) (Ok t))) ≡ Err f → Why lim k s c t f
@@ -305,14 +305,14 @@ why lim k s c t f e = by (long_text lim t) (is_deep lim s c) (long_name lim t) r
     by false false false x y z e = ok_err f t e
 
 -- a refusal of a judged step is a fault that comes
-pub refusal_comes : (lim : Limits) (front : List ℕ) (c : ℕ) (s : State) (f : Refusal) → Fronts front s → length s.run ≤ lim.text → judged lim (size front) s c ≡ Err f → Comes lim front c f
+pub refusal_comes : (lim : Limits) (front : List ℕ) (c : ℕ) (s : State) (f : DocumentRefusal) → Fronts front s → length s.run ≤ lim.text → judged lim (size front) s c ≡ Err f → Comes lim front c f
 refusal_comes lim front c s f g short e =
     elim (step s c) as (λ (o : Option State). step s c ≡ o → judged_by lim (size front) s c o ≡ Err f → Comes lim front c f) [
       | None ↦ λ d k. syntax_ f k (step_bad front s c g d)
       | Some t ↦ λ d k. by t d (step_more front s t c g d) (why lim (size front) s c t f k)
     ] refl e
   where
-    syntax_ : (f : Refusal) → SameErr (AtSyntax (size front)) f → (Viable (front ++ c ∷ []) → ⊥) → Comes lim front c f
+    syntax_ : (f : DocumentRefusal) → SameErr (AtSyntax (size front)) f → (Viable (front ++ c ∷ []) → ⊥) → Comes lim front c f
     syntax_ f e no_more = subst (Comes lim front c) (err_is (AtSyntax (size front)) f e) (refl, no_more)
 
     opened_by : (t : State) → (n : Fronts (front ++ c ∷ []) t) → OpensFrames (front ++ c ∷ []) n.frames n.content n.piece
@@ -336,7 +336,7 @@ refusal_comes lim front c s f g short e =
           record { frames = g.frames; content = g.content; piece = g.piece; opens = record { good = g.good; spelled = g.spelled }; is = subst (λ (r : State). length r.run ≤ lim.text) (sym g.state) short },
         )
 
-ok_tests : (a b c : Bool) (f g h : Refusal) (t u : State) → cond a (Err f) (cond b (Err g) (cond c (Err h) (Ok t))) ≡ Ok u → (a ≡ false) × (t ≡ u)
+ok_tests : (a b c : Bool) (f g h : DocumentRefusal) (t u : State) → cond a (Err f) (cond b (Err g) (cond c (Err h) (Ok t))) ≡ Ok u → (a ≡ false) × (t ≡ u)
 ok_tests true b c f g h t u e = err_ok f u e
 ok_tests false true c f g h t u e = err_ok g u e
 ok_tests false false true f g h t u e = err_ok h u e
@@ -353,7 +353,7 @@ step_ok lim front c s t g e =
     ] refl e
 
 -- one character more
-pub clean_more : (lim : Limits) (b : List ℕ) (c : ℕ) → Clean lim b → ((f : Refusal) → Comes lim b c f → ⊥) → Clean lim (b ++ (c ∷ []))
+pub clean_more : (lim : Limits) (b : List ℕ) (c : ℕ) → Clean lim b → ((f : DocumentRefusal) → Comes lim b c f → ⊥) → Clean lim (b ++ (c ∷ []))
 clean_more lim b c h k front d rest f e =
     elim (split_last rest front d b c e) [
       | inl q ↦ λ w. k f (subst (λ l. Comes lim l c f) (sym q.0) (subst (λ a. Comes lim front a f) (sym q.1) w))
@@ -388,14 +388,14 @@ reads_more lim b c s t r e =
     record { front = k.0; clean = clean_more lim b c r.clean (λ f. none_comes lim b c s t f r.front r.short e); short = k.1 }
 
 -- what judged steps say of the bytes: no fault, or the one that comes first
-abbrev pub Said : Limits → List ℕ → Result State Refusal → Type 0
+abbrev pub Said : Limits → List ℕ → Result State DocumentRefusal → Type 0
 Said lim b (Ok t) = Reads lim b t
 Said lim b (Err f) = ComesFirst lim b f
 
 pub judged_says : (lim : Limits) (b : List ℕ) (s : State) (cs : List ℕ) → Reads lim b s → Said lim (b ++ cs) (judged_steps lim (size b) s cs)
 judged_says lim b s [] r = subst (λ l. Reads lim l s) (sym (append-nil b)) r
 judged_says lim b s (c ∷ cs) r =
-    elim (judged lim (size b) s c) as (λ (q : Result State Refusal). judged lim (size b) s c ≡ q → Said lim (b ++ (c ∷ cs)) (on_ok q (λ t. judged_steps lim (size b + len_utf8 c) t cs))) [
+    elim (judged lim (size b) s c) as (λ (q : Result State DocumentRefusal). judged lim (size b) s c ≡ q → Said lim (b ++ (c ∷ cs)) (on_ok q (λ t. judged_steps lim (size b + len_utf8 c) t cs))) [
       | Err f ↦ λ e. record { front = b; at = c; rest = cs; parts = refl; clean = r.clean; comes = refusal_comes lim b c s f r.front r.short e }
       | Ok t ↦ λ e.
           let m = judged_says lim (b ++ c ∷ []) t cs (reads_more lim b c s t r e) in
@@ -414,6 +414,6 @@ start_reads lim = record { front = start_fronts; clean = λ front c rest f e h. 
 pub judged_tells : (lim : Limits) (b : List ℕ) → Told lim b (judged_steps lim 0 start b)
 judged_tells lim b = by (judged_steps lim 0 start b) (judged_says lim [] start b (start_reads lim))
   where
-    by : (r : Result State Refusal) → Said lim b r → Told lim b r
+    by : (r : Result State DocumentRefusal) → Said lim b r → Told lim b r
     by (Ok t) h = h.clean
     by (Err f) h = h

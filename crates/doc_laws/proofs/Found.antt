@@ -7,14 +7,14 @@ use Rattle.gcx_model.specs.References.{is_front}
 use Rattle.gcx_model.specs.declared.fault.DocFault.{DocFault}
 use Rattle.gcx_model.specs.declared.fault.DocFault.TheVariants.{Utf8, Truncated, TooLong}
 use Rattle.gcx_model.specs.Seen.{IsLongest, SeenIs}
-use Rattle.gcx_model.specs.Tree.{Token, End}
+use Rattle.gcx_model.specs.Tree.{TreeToken, End}
 use Rattle.std.proofs.lemmas.Str.{encodes-append}
 use Rattle.std.proofs.lemmas.List.{take-append-drop, length-take}
 use Rattle.doc_laws.specs.States.{Fronts}
 use Rattle.doc_laws.proofs.Unique.{clean_reads}
 use Rattle.doc_laws.proofs.LastTag.{longest_so_far, longest_at_fault, longest_at_bad, longest_at_limit, seen_so_far, seen_at_fault, seen_whole}
 use Rattle.doc_laws.proofs.Words.{scalars_front}
-use Rattle.gcx_model.specs.Faults.{ComesFirst, Refusal, fault_of, size, IsCharFront, IsNotUtf8, Decodes, IsBad, FaultWithin, by_character, by_sequence, by_cut, by_end, none_yet, none_whole, FaultIs, within_limit, before_limit, past_limit}
+use Rattle.gcx_model.specs.Faults.{ComesFirst, DocumentRefusal, fault_of, size, IsCharFront, IsNotUtf8, Decodes, IsBad, FaultWithin, by_character, by_sequence, by_cut, by_end, none_yet, none_whole, FaultIs, within_limit, before_limit, past_limit}
 use Rattle.doc_laws.specs.Machine.{State, start, is_whole}
 use Rattle.doc_laws.specs.Judging.{judged_steps}
 use Rattle.doc_laws.proofs.Moves.{some_bytes}
@@ -130,12 +130,12 @@ at_end lim b cs [] t d r true = by (is_whole t) refl
 found_in : (lim : Limits) (b : List ℕ) (ended : Bool) → Parts b → (o : Option DocFault) × FaultWithin lim b ended o
 found_in lim b ended (good_parts cs tail d) = by (judged_steps lim 0 start cs) (judged_says lim [] start cs (start_reads lim))
   where
-    by : (r : Result State Refusal) → Said lim cs r → (o : Option DocFault) × FaultWithin lim b ended o
+    by : (r : Result State DocumentRefusal) → Said lim cs r → (o : Option DocFault) × FaultWithin lim b ended o
     by (Ok t) s = at_end lim b cs tail t d s ended
     by (Err f) s = (Some (fault_of f), by_character cs tail f d.chars d.parts s refl)
 found_in lim b ended (bad_parts cs i) = by (judged_steps lim 0 start cs) (judged_says lim [] start cs (start_reads lim))
   where
-    by : (r : Result State Refusal) → Said lim cs r → (o : Option DocFault) × FaultWithin lim b ended o
+    by : (r : Result State DocumentRefusal) → Said lim cs r → (o : Option DocFault) × FaultWithin lim b ended o
     by (Ok t) s = (Some (Utf8 (size cs)), by_sequence cs i s.clean refl)
     by (Err f) s = (Some (fault_of f), by_character cs i.rest f i.chars i.parts s refl)
 
@@ -161,7 +161,7 @@ pub record Most (lim : Limits) (b : List ℕ) : Type 0 where
   pub front : Fronts chars state
   pub longest : IsLongest lim b chars
 
-most_at : (lim : Limits) (b cs rest : List ℕ) (f : Refusal) → scalars cs ≡ true → b ≡ encodes cs ++ rest → length (encodes cs) ≤ lim.bytes → ComesFirst lim cs f → Most lim b
+most_at : (lim : Limits) (b cs rest : List ℕ) (f : DocumentRefusal) → scalars cs ≡ true → b ≡ encodes cs ++ rest → length (encodes cs) ≤ lim.bytes → ComesFirst lim cs f → Most lim b
 most_at lim b cs rest f s e k h =
     let r = clean_reads lim h.front h.clean in
     let chars_are : encodes cs ≡ encodes h.front ++ (encode h.at ++ encodes h.rest) = ap encodes h.parts ∙ encodes-append h.front (h.at ∷ h.rest) in
@@ -176,7 +176,7 @@ most_at lim b cs rest f s e k h =
 most_in : (lim : Limits) (b more : List ℕ) → length b ≤ lim.bytes → ((more ≡ []) ⊎ (length b ≡ lim.bytes)) → Parts b → Most lim (b ++ more)
 most_in lim b more k whole (good_parts cs tail d) = by (judged_steps lim 0 start cs) (judged_says lim [] start cs (start_reads lim))
   where
-    by : (r : Result State Refusal) → Said lim cs r → Most lim (b ++ more)
+    by : (r : Result State DocumentRefusal) → Said lim cs r → Most lim (b ++ more)
     by (Ok t) s =
         let stands : Stands lim b tail t = record { chars = cs; decodes = d; reads = s } in
         record {
@@ -194,7 +194,7 @@ most_in lim b more k whole (bad_parts cs i) = by (judged_steps lim 0 start cs) (
     within : length (encodes cs) ≤ lim.bytes
     within = omega (arith, k, ap length i.parts, length-append (encodes cs) i.rest)
 
-    by : (r : Result State Refusal) → Said lim cs r → Most lim (b ++ more)
+    by : (r : Result State DocumentRefusal) → Said lim cs r → Most lim (b ++ more)
     by (Ok t) s = record {
       chars = cs;
       state = t;
@@ -213,10 +213,10 @@ most lim b =
     ]
 
 -- what is seen in bytes
-pub found_seen : (lim : Limits) (b : List ℕ) (over : Bool) → (ts : List Token) × SeenIs lim b over ts
+pub found_seen : (lim : Limits) (b : List ℕ) (over : Bool) → (ts : List TreeToken) × SeenIs lim b over ts
 found_seen lim b false = let m = most lim b in (m.state.tokens, seen_so_far lim b m.chars m.state m.front m.longest)
 found_seen lim b true = let f = found lim b true in by (most lim b) f.0 f.1
   where
-    by : Most lim b → (o : Option DocFault) → FaultIs lim b true o → (ts : List Token) × SeenIs lim b true ts
+    by : Most lim b → (o : Option DocFault) → FaultIs lim b true o → (ts : List TreeToken) × SeenIs lim b true ts
     by m None w = (m.state.tokens ++ (End ∷ []), seen_whole lim b m.chars m.state m.front m.longest w)
     by m (Some f) w = (m.state.tokens, seen_at_fault lim b m.chars true m.state f m.front m.longest w)

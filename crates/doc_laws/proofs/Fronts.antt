@@ -10,8 +10,8 @@ use Rattle.gcx_model.specs.References.{letters}
 use Rattle.gcx_model.specs.Attributes.{is_text_char, is_name, is_blank_text, is_gap, is_quote, is_fresh, AttributeValue, blank_value, value_char, value_reference, Head, Attributes, no_attribute, attribute, value_spelling, head_spelling, attributes_spelling, attribute_names, is_value_char, IsValue, IsHead, IsAttributes}
 use Rattle.gcx_model.specs.Markup.{CommentText, blank_comment, plain, dashed, CDSect, blank_cdsect, further, blank_data, data_char, data_spelling, marks, ends_data, blank_declaration, doc_char, literal, doc_word, doc_start, is_doc_char, is_literal_char, declaration_spelling, comment_spelling, comment_start, cdata_word, cdata_start, cdsect_spelling, IsCommentText, brackets, one_more, ends_cdsect, IsCDSect}
 use Rattle.gcx_model.specs.Grammar.{Content, nothing, mark, space, char, reference, cdata, comment, bare, instruction, doctype, single, tagged, single_tag, end_tag_spelling, spelling, has_element, may_open, IsContent, nodes, Viable}
-use Rattle.gcx_model.specs.Fronts.{Frames, bottom, frame, Part, no_part, spaced, part_name, name_spaced, equals, value, value_amp, Piece, no_piece, less, started, tag, slashed, ending, ended, question, target, target_mark, in_instruction, doc_wording, doc_gap, doc, doc_literal, bang, bang_dash, in_comment, comment_dash, comment_end, cdsect_word, in_cdsect, amp, frames_spelling, piece_spelling, names, inside, IsFrames, IsPart, IsPiece, part_spelling, front_spelling, IsFront}
-use Rattle.doc_laws.specs.Machine.{Mode, State, begun, on_between, on_tag, on_named, on_ended, on_referred, InReference, InValueReference, Between, InValue, behind, to_end_name, on_end, on_word, step, to_mode, DocWord, DocSpace, CDSectWord, InCDSect}
+use Rattle.gcx_model.specs.Fronts.{Frames, bottom, frame, Part, no_part, spaced, part_name, name_spaced, equals, value_part, value_amp, Piece, no_piece, less, started, tag, slashed, ending, ended, question, target, target_mark, in_instruction, doc_wording, doc_gap, doc, doc_literal, bang, bang_dash, in_comment, comment_dash, comment_end, cdsect_word, in_cdsect, amp, frames_spelling, piece_spelling, names, inside, IsFrames, IsPart, IsPiece, part_spelling, front_spelling, IsFront}
+use Rattle.doc_laws.specs.Machine.{MachineMode, State, begun, on_between, on_tag, on_named, on_ended, on_referred, InReference, InValueReference, Between, InValue, behind, to_end_name, on_end, on_word, step, to_mode, DocWord, DocSpace, CDSectWord, InCDSect}
 use Rattle.doc_laws.specs.States.{rooted, typed, Fronts, state_of}
 use Rattle.doc_laws.proofs.Tests.{not_true, chosen, at, all_more, name_more, name_append, blank_more, gap_blank, gap_more}
 use Rattle.doc_laws.proofs.References.{completes, Refers, goes_on, is_done, is_bad, refers}
@@ -157,7 +157,7 @@ module _ (fs : Frames) (x : Content) (n : List ℕ) (ats : Attributes) where
   tag_whole (equals sp m sp1 sp2) g k may name ga q =
       let h : Head = record { gap = sp; name = m; before = sp1; behind = sp2; quote = 34 } in
       attribute_whole h blank_value (equals sp m sp1 sp2) (34 ∷ (34 ∷ (62 ∷ []))) g k may name ga (q.0, q.1, q.2, q.3, q.4, refl) tt (simp append_assoc)
-  tag_whole (value h v) g k may name ga q = attribute_whole h v (value h v) (h.quote ∷ (62 ∷ [])) g k may name ga q.0 q.1 (simp append_assoc)
+  tag_whole (value_part h v) g k may name ga q = attribute_whole h v (value_part h v) (h.quote ∷ (62 ∷ [])) g k may name ga q.0 q.1 (simp append_assoc)
   tag_whole (value_amp h v r) g k may name ga q =
       let t = completes r q.2 in
       attribute_whole h (value_reference v t.reference) (value_amp h v r) (t.more ++ (h.quote ∷ (62 ∷ []))) g k may name ga q.0 (q.1, t.good)
@@ -302,7 +302,7 @@ tag_front fs x n ats sp p c s g h may name ga b spelled m1 m2 m3 u f e =
       ]
     ]
 
-word_next : (st s : State) (c : ℕ) (mk : List ℕ → Mode) (after : Option State) (d : ℕ) (r : List ℕ) → on_word st c mk (d ∷ r) after ≡ Some s → c ≡ d
+word_next : (st s : State) (c : ℕ) (mk : List ℕ → MachineMode) (after : Option State) (d : ℕ) (r : List ℕ) → on_word st c mk (d ∷ r) after ≡ Some s → c ≡ d
 word_next st s c mk after d r e = eqb-true c d (last (eqb c d) _ s e)
 
 behind_is : (xs ys rest : List ℕ) → behind xs ys ≡ Some rest → ys ≡ xs ++ rest
@@ -367,18 +367,18 @@ module _ (fs : Frames) (x : Content) (n : List ℕ) (ats : Attributes) (c : ℕ)
         | inr i ↦
             let q = last (is_quote c) _ s i.1 in
             let h : Head = record { gap = sp; name = m; before = sp1; behind = sp2; quote = c } in
-            to_part (equals sp m sp1 sp2) (value h blank_value) ((k.0, k.1, k.2, k.3, k.4, q), tt) (simp (append_assoc, append-nil)) (moved s _ _ (m_quote fs x n ats h q) e)
+            to_part (equals sp m sp1 sp2) (value_part h blank_value) ((k.0, k.1, k.2, k.3, k.4, q), tt) (simp (append_assoc, append-nil)) (moved s _ _ (m_quote fs x n ats h q) e)
       ]
-  part_front (value h v) k e =
+  part_front (value_part h v) k e =
       elim (first (is_value_char h.quote c) _ s _ e) [
-        | inl i ↦ to_part (value h v) (value h (value_char v c)) (k.0, (k.1, i)) (simp append_assoc) (moved s _ _ (m_value fs x n ats h v c i) e)
+        | inl i ↦ to_part (value_part h v) (value_part h (value_char v c)) (k.0, (k.1, i)) (simp append_assoc) (moved s _ _ (m_value fs x n ats h v c i) e)
         | inr i ↦ elim (first (eqb c h.quote) _ s _ i.1) [
           | inl j ↦
               let is = at c h.quote j in
-              to_piece fs x c s (tag n ats (value h v)) (tag n (attribute ats h v) no_part) g gx (may, name, (ga, k.0, k.1), refl) (ap (λ d. 60 ∷ (n ++ ((attributes_spelling ats ++ (head_spelling h ++ (value_spelling v ++ (d ∷ [])))) ++ []))) (sym is) ∙ (simp (append_assoc, append-nil))) (by_at s _ (state_of fs x (tag n ats (value h v))) c h.quote is (m_valued fs x n ats h v) e)
+              to_piece fs x c s (tag n ats (value_part h v)) (tag n (attribute ats h v) no_part) g gx (may, name, (ga, k.0, k.1), refl) (ap (λ d. 60 ∷ (n ++ ((attributes_spelling ats ++ (head_spelling h ++ (value_spelling v ++ (d ∷ [])))) ++ []))) (sym is) ∙ (simp (append_assoc, append-nil))) (by_at s _ (state_of fs x (tag n ats (value_part h v))) c h.quote is (m_valued fs x n ats h v) e)
           | inr j ↦
               let is = at c 38 (last (eqb c 38) _ s j.1) in
-              to_part (value h v) (value_amp h v (letters [])) (k.0, k.1, refl) (ap (λ d. head_spelling h ++ (value_spelling v ++ (d ∷ []))) (sym is) ∙ (simp append_assoc)) (by_at s _ (state_of fs x (tag n ats (value h v))) c 38 is (m_value_amp fs x n ats h v k.0.5) e)
+              to_part (value_part h v) (value_amp h v (letters [])) (k.0, k.1, refl) (ap (λ d. head_spelling h ++ (value_spelling v ++ (d ∷ []))) (sym is) ∙ (simp append_assoc)) (by_at s _ (state_of fs x (tag n ats (value_part h v))) c 38 is (m_value_amp fs x n ats h v k.0.5) e)
         ]
       ]
   part_front (value_amp h v r) k e =
@@ -386,7 +386,7 @@ module _ (fs : Frames) (x : Content) (n : List ℕ) (ats : Attributes) (c : ℕ)
     where
       by : Refers r c → Fronts (front_spelling fs x (tag n ats (value_amp h v r)) ++ (c ∷ [])) s
       by (goes_on q g1 sp e1) = to_part (value_amp h v r) (value_amp h v q) (k.0, k.1, g1) (ap (λ l. head_spelling h ++ (value_spelling v ++ l)) sp ∙ (simp append_assoc)) (moved s _ _ (m_value_refer fs x n ats h v r q c e1) e)
-      by (is_done t g1 sp e1) = to_part (value_amp h v r) (value h (value_reference v t)) (k.0, (k.1, g1)) (ap (λ l. head_spelling h ++ (value_spelling v ++ l)) sp ∙ (simp append_assoc)) (moved s _ _ (m_value_referred fs x n ats h v r t c e1) e)
+      by (is_done t g1 sp e1) = to_part (value_amp h v r) (value_part h (value_reference v t)) (k.0, (k.1, g1)) (ap (λ l. head_spelling h ++ (value_spelling v ++ l)) sp ∙ (simp append_assoc)) (moved s _ _ (m_value_referred fs x n ats h v r t c e1) e)
       by (is_bad e1) = none_some s (sym (ap (on_referred (state_of fs x (tag n ats (value_amp h v r))) (InValueReference h.quote) (InValue h.quote)) e1) ∙ e)
 
 ended_front : (fs : Frames) (y x : Content) (n : List ℕ) (ats : Attributes) (sp sp2 : List ℕ) (p : Piece) (c : ℕ) (s : State) → IsFrames (frame fs y n ats sp) → IsContent true x → is_blank_text sp2 ≡ true → piece_spelling p ≡ 60 ∷ (47 ∷ (n ++ sp2))

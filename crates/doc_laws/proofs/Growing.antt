@@ -6,7 +6,7 @@ use Rattle.std.proofs.lemmas.List.Elements.{All-nil, All-cons, All-head, All-tai
 use lib.Utf8.{encodes}
 use Rattle.gcx_base.specs.declared.limits.Limits.{Limits}
 use Rattle.gcx_model.specs.Document.{Nodes, none, element, text, AreNodes, IsDocument, tokens}
-use Rattle.gcx_model.specs.Tree.{Tree, Token, Start, Chars, End, opening, grow}
+use Rattle.gcx_model.specs.Tree.{Tree, TreeToken, Start, Chars, End, opening, grow}
 use Rattle.gcx_model.specs.Growth.{Leads, may_come, may_all}
 use Rattle.gcx_model.specs.Grammar.{SpellsDocument}
 use Rattle.gcx_model.specs.Fronts.{bottom, no_piece}
@@ -25,15 +25,15 @@ use Rattle.doc_laws.proofs.Seen.{fronts_after}
 use Rattle.doc_laws.proofs.LastTag.{opens_front, last_tag, longest_is, longest_one}
 
 -- the first of tokens that may come
-may_first : (ts us : List Token) (P : Tree) → may_all (ts ++ us) P ≡ true → may_all ts P ≡ true
+may_first : (ts us : List TreeToken) (P : Tree) → may_all (ts ++ us) P ≡ true → may_all ts P ≡ true
 may_first [] us P h = refl
 may_first (t ∷ ts) us P h = let a = and_parts (may_come t P) (may_all (ts ++ us) (grow t P)) h in and_from _ _ a.0 (may_first ts us (grow t P) a.1)
 
 -- the tokens are the first of a document's
-record BeginsDocument (ts : List Token) : Type 0 where
+record BeginsDocument (ts : List TreeToken) : Type 0 where
   document : Nodes
   is_document : IsDocument document
-  rest : List Token
+  rest : List TreeToken
   parts : tokens document ++ (End ∷ []) ≡ ts ++ rest
 
 -- a document whose whole text is read
@@ -63,13 +63,13 @@ whole_document lim b (within_limit k w) = by w
     )
 
 -- the tokens that are seen where a document is whole
-whole_tokens : (cs : List ℕ) (d : Nodes) (ts : List Token) → SpellsDocument cs d → SeenIn cs ts → ts ≡ tokens d
+whole_tokens : (cs : List ℕ) (d : Nodes) (ts : List TreeToken) → SpellsDocument cs d → SeenIn cs ts → ts ≡ tokens d
 whole_tokens cs d ts s h =
     let e : state_of h.frames h.content h.piece ≡ state_of bottom s.content no_piece = some_is _ _ (sym (fronts_lead cs (state_of h.frames h.content h.piece) (opens_front cs h.frames h.content h.piece h.opens)) ∙ spells_leads cs d s) in
     h.tokens_are ∙ ap (λ (u : State). u.tokens) e ∙ ap tokens s.tree
 
 -- what is seen is nothing, or the first tokens of a document
-begins_document : (lim : Limits) (b : List ℕ) (over : Bool) (ts : List Token) → SeenIs lim b over ts → (ts ≡ []) ⊎ BeginsDocument ts
+begins_document : (lim : Limits) (b : List ℕ) (over : Bool) (ts : List TreeToken) → SeenIs lim b over ts → (ts ≡ []) ⊎ BeginsDocument ts
 begins_document lim b over ts h = by h.ends h.document_ends h.tokens_are
   where
     t : LastTag h.chars h.seen.frames h.seen.content
@@ -86,7 +86,7 @@ begins_document lim b over ts h = by h.ends h.document_ends h.tokens_are
       })
     ]
 
-    by : (ends : List Token) → DocumentEnds lim b over ends → ts ≡ h.tags ++ ends → (ts ≡ []) ⊎ BeginsDocument ts
+    by : (ends : List TreeToken) → DocumentEnds lim b over ends → ts ≡ h.tags ++ ends → (ts ≡ []) ⊎ BeginsDocument ts
     by ends (stays_open n e) k = open_still (k ∙ ap (λ l. h.tags ++ l) e ∙ append-nil h.tags)
     by ends (closes i f e) k =
         let w = whole_document lim b f in
@@ -100,13 +100,13 @@ begins_document lim b over ts h = by h.ends h.document_ends h.tokens_are
         })
 
 -- the tokens that are seen may come one by one
-pub seen_comes : (lim : Limits) (b : List ℕ) (over : Bool) (ts : List Token) → SeenIs lim b over ts → may_all ts opening ≡ true
+pub seen_comes : (lim : Limits) (b : List ℕ) (over : Bool) (ts : List TreeToken) → SeenIs lim b over ts → may_all ts opening ≡ true
 seen_comes lim b over ts h = elim (begins_document lim b over ts h) [
   | inl e ↦ ap (λ l. may_all l opening) e
   | inr d ↦ may_first ts d.rest opening (ap (λ l. may_all l opening) (sym d.parts) ∙ document_comes d.document d.is_document)
 ]
 
-pub seen_leads : (lim : Limits) (b : List ℕ) (over : Bool) (ts : List Token) → SeenIs lim b over ts → Leads opening (seen_tree ts)
+pub seen_leads : (lim : Limits) (b : List ℕ) (over : Bool) (ts : List TreeToken) → SeenIs lim b over ts → Leads opening (seen_tree ts)
 seen_leads lim b over ts h = leads ts opening (seen_comes lim b over ts h)
 
 -- each start has a name
@@ -124,18 +124,18 @@ document_nodes (element (element b m c) n inner) g = absurd g
 document_nodes (element (text b t) n inner) g = absurd g
 document_nodes (text before t) g = absurd g
 
-named_first : (ts us : List Token) → All IsNamed (ts ++ us) → All IsNamed ts
+named_first : (ts us : List TreeToken) → All IsNamed (ts ++ us) → All IsNamed ts
 named_first [] us h = All-nil IsNamed
 named_first (t ∷ ts) us h = All-cons IsNamed t ts (All-head IsNamed t (ts ++ us) h) (named_first ts us (All-tail IsNamed t (ts ++ us) h))
 
-pub seen_named : (lim : Limits) (b : List ℕ) (over : Bool) (ts : List Token) → SeenIs lim b over ts → All IsNamed ts
+pub seen_named : (lim : Limits) (b : List ℕ) (over : Bool) (ts : List TreeToken) → SeenIs lim b over ts → All IsNamed ts
 seen_named lim b over ts h = elim (begins_document lim b over ts h) [
   | inl e ↦ subst (All IsNamed) (sym e) (All-nil IsNamed)
   | inr d ↦ named_first ts d.rest (subst (All IsNamed) d.parts (All-append IsNamed (tokens d.document) (End ∷ []) (nodes_named d.document (document_nodes d.document d.is_document)) (All-cons IsNamed End [] tt (All-nil IsNamed))))
 ]
 
 -- more bytes give more tokens
-pub seen_more : (lim : Limits) (b more : List ℕ) (over : Bool) (ts us : List Token) → SeenIs lim b false ts → SeenIs lim (b ++ more) over us → (rest : List Token) × (us ≡ ts ++ rest)
+pub seen_more : (lim : Limits) (b more : List ℕ) (over : Bool) (ts us : List TreeToken) → SeenIs lim b false ts → SeenIs lim (b ++ more) over us → (rest : List TreeToken) × (us ≡ ts ++ rest)
 seen_more lim b more over ts us h k =
     let l = h.longest in
     let m = longest_is lim (b ++ more) k.chars h.chars (l.rest ++ more) k.longest l.chars (ap (λ z. z ++ more) l.parts ∙ append_assoc (encodes h.chars) l.rest more) l.within l.clean in
@@ -146,6 +146,6 @@ seen_more lim b more over ts us h k =
     let ts_are : ts ≡ h.tags = h.tokens_are ∙ ap (λ z. h.tags ++ z) (no_end h.ends h.document_ends) ∙ append-nil h.tags in
     (a.more ++ k.ends, k.tokens_are ∙ ap (λ z. z ++ k.ends) (tags_are ∙ ap (λ z. z ++ a.more) (sym ts_are)) ∙ append_assoc ts a.more k.ends)
   where
-    no_end : (ends : List Token) → DocumentEnds lim b false ends → ends ≡ []
+    no_end : (ends : List TreeToken) → DocumentEnds lim b false ends → ends ≡ []
     no_end ends (closes i f e) = absurd (false≢true i)
     no_end ends (stays_open n e) = e

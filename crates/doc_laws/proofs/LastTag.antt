@@ -6,12 +6,12 @@ use lib.Utf8.{scalar, scalars, encode, encodes}
 use Rattle.gcx_base.specs.Characters.{is_white}
 use Rattle.gcx_base.specs.declared.limits.Limits.{Limits}
 use Rattle.gcx_model.specs.Document.{Nodes, tokens}
-use Rattle.gcx_model.specs.Tree.{Token, Start, End}
+use Rattle.gcx_model.specs.Tree.{TreeToken, Start, End}
 use Rattle.gcx_model.specs.Attributes.{is_blank_text, Attributes, no_attribute, attribute, attributes_spelling}
 use Rattle.gcx_model.specs.Grammar.{Content, nothing, mark, space, char, reference, cdata, comment, bare, instruction, doctype, single, tagged, spelling, has_element, text_run, with_run, attribute_nodes, nodes, SpellsDocument}
 use Rattle.gcx_model.specs.Fronts.{Frames, bottom, frame, no_part, spaced, Piece, no_piece, started, tag, slashed, ending, ended, IsFrames, IsFront, OpensFrames, front_spelling, frames_spelling, piece_spelling, inside, text_of, frames_tokens, seen_tokens}
 use Rattle.gcx_model.specs.declared.fault.DocFault.{DocFault}
-use Rattle.gcx_model.specs.Faults.{Refusal, Comes, Clean, size, IsBad, FaultIs}
+use Rattle.gcx_model.specs.Faults.{DocumentRefusal, Comes, Clean, size, IsBad, FaultIs}
 use Rattle.gcx_model.specs.Seen.{DocumentEnds, SeenIn, IsLongest, SeenIs, closes as document_closes, stays_open, up_to_tag, ends_in_tag, EndsWithTag, end_tags, open_ends, LastTag}
 use Rattle.doc_laws.specs.Machine.{State}
 use Rattle.doc_laws.specs.States.{rooted, state_of, Fronts}
@@ -228,7 +228,7 @@ longest_so_far lim b tail s h k = record {
   most = λ c more sc e l cl. front_no_char tail h.decodes.part c more sc e;
 }
 
-pub longest_at_fault : (lim : Limits) (b cs rest : List ℕ) (s : State) (c : ℕ) (f : Refusal) → Reads lim cs s → judged lim (size cs) s c ≡ Err f → scalars cs ≡ true → b ≡ encodes cs ++ (encode c ++ rest) → length (encodes cs) ≤ lim.bytes → IsLongest lim b cs
+pub longest_at_fault : (lim : Limits) (b cs rest : List ℕ) (s : State) (c : ℕ) (f : DocumentRefusal) → Reads lim cs s → judged lim (size cs) s c ≡ Err f → scalars cs ≡ true → b ≡ encodes cs ++ (encode c ++ rest) → length (encodes cs) ≤ lim.bytes → IsLongest lim b cs
 longest_at_fault lim b cs rest s c f r e sc parts k = record {
   rest = encode c ++ rest;
   chars = sc;
@@ -282,7 +282,7 @@ pub seen_whole : (lim : Limits) (b cs : List ℕ) (s : State) → Fronts cs s �
 seen_whole lim b cs s f l h = record { chars = cs; longest = l; tags = s.tokens; seen = state_seen cs s f; ends = End ∷ []; document_ends = document_closes refl h refl; tokens_are = refl }
 
 -- what is seen is one list of tokens
-seen_in_one : (cs : List ℕ) (ts us : List Token) → SeenIn cs ts → SeenIn cs us → ts ≡ us
+seen_in_one : (cs : List ℕ) (ts us : List TreeToken) → SeenIn cs ts → SeenIn cs us → ts ≡ us
 seen_in_one cs ts us h k =
     h.tokens_are
     ∙ ap (λ (u : State). u.tokens) (fronts_one cs (state_of h.frames h.content h.piece) (state_of k.frames k.content k.piece) (opens_front cs h.frames h.content h.piece h.opens) (opens_front cs k.frames k.content k.piece k.opens))
@@ -298,13 +298,13 @@ longest_one lim b cs ds h k =
     let q = longest_is lim b ds cs h.rest k h.chars h.parts h.within h.clean in
     both_front cs ds p.0 q.0 p.1 q.1
 
-ends_one : (lim : Limits) (b : List ℕ) (over : Bool) (ts us : List Token) → DocumentEnds lim b over ts → DocumentEnds lim b over us → ts ≡ us
+ends_one : (lim : Limits) (b : List ℕ) (over : Bool) (ts us : List TreeToken) → DocumentEnds lim b over ts → DocumentEnds lim b over us → ts ≡ us
 ends_one lim b over ts us (document_closes i f e) (document_closes j g k) = e ∙ sym k
 ends_one lim b over ts us (document_closes i f e) (stays_open n k) = absurd (n i f)
 ends_one lim b over ts us (stays_open n k) (document_closes i f e) = absurd (n i f)
 ends_one lim b over ts us (stays_open n e) (stays_open m k) = e ∙ sym k
 
-pub seen_one : (lim : Limits) (b : List ℕ) (over : Bool) (ts us : List Token) → SeenIs lim b over ts → SeenIs lim b over us → ts ≡ us
+pub seen_one : (lim : Limits) (b : List ℕ) (over : Bool) (ts us : List TreeToken) → SeenIs lim b over ts → SeenIs lim b over us → ts ≡ us
 seen_one lim b over ts us h k =
     let same = longest_one lim b h.chars k.chars h.longest k.longest in
     h.tokens_are

@@ -12,8 +12,8 @@ use Rattle.gcx_model.specs.References.{Reference, reference_char, BegunReference
 use Rattle.gcx_model.specs.Attributes.{is_text_char, is_blank_text, is_gap, is_quote, is_fresh, AttributeValue, blank_value, value_char, value_reference, Head, Attributes, no_attribute, attribute, attribute_names, is_value_char, value_run}
 use Rattle.gcx_model.specs.Markup.{CommentText, blank_comment, plain, dashed, CDSect, blank_cdsect, further, InstructionData, blank_data, data_char, marks, ends_data, Declaration, blank_declaration, doc_char, literal, doc_word, is_doc_char, is_literal_char, cdata_word, brackets, one_more, ends_cdsect, settled}
 use Rattle.gcx_model.specs.Grammar.{Content, nothing, mark, space, char, reference, cdata, comment, bare, instruction, doctype, single, tagged, has_element, has_type, may_type, may_open, text_run, with_run, joined, attribute_nodes, nodes}
-use Rattle.gcx_model.specs.Fronts.{Frames, bottom, frame, Part, no_part, spaced, part_name, name_spaced, equals, value, value_amp, Piece, no_piece, less, started, tag, slashed, ending, ended, question, target, target_mark, in_instruction, doc_wording, doc_gap, doc, doc_literal, bang, bang_dash, in_comment, comment_dash, comment_end, cdsect_word, in_cdsect, amp, names, inside, text_of, frames_tokens, seen_tokens}
-use Rattle.doc_laws.specs.Machine.{More, Done, Mode, Opening, Between, InValue, InValueReference, DocWord, DocSpace, CDSectWord, InCDSect, InReference, State, opened, closed, to_mode, refer, on_between, on_referred, behind, to_end_name, on_end, on_word, step, steps, go_on}
+use Rattle.gcx_model.specs.Fronts.{Frames, bottom, frame, Part, no_part, spaced, part_name, name_spaced, equals, value_part, value_amp, Piece, no_piece, less, started, tag, slashed, ending, ended, question, target, target_mark, in_instruction, doc_wording, doc_gap, doc, doc_literal, bang, bang_dash, in_comment, comment_dash, comment_end, cdsect_word, in_cdsect, amp, names, inside, text_of, frames_tokens, seen_tokens}
+use Rattle.doc_laws.specs.Machine.{More, Done, MachineMode, Opening, Between, InValue, InValueReference, DocWord, DocSpace, CDSectWord, InCDSect, InReference, State, opened, closed, to_mode, refer, on_between, on_referred, behind, to_end_name, on_end, on_word, step, steps, go_on}
 use Rattle.doc_laws.specs.States.{referring, is_opening, is_nothing, typed, tag_tokens, state_of}
 use Rattle.doc_laws.proofs.Tests.{space_not_name, not_start, quote_not_space, not_amp, start_not_space, quote_not_doc, quote_not_greater, not_literal, not_value}
 
@@ -52,7 +52,7 @@ tokens-with_run ns r =
     [ true ↦ sym (append-nil _) | false ↦ refl ]
 
 -- the next character of a word
-pub word_on : (s : State) (c : ℕ) (mk : List ℕ → Mode) (r : List ℕ) (after : Option State) → on_word s c mk (c ∷ r) after ≡ to_mode s (mk r)
+pub word_on : (s : State) (c : ℕ) (mk : List ℕ → MachineMode) (r : List ℕ) (after : Option State) → on_word s c mk (c ∷ r) after ≡ to_mode s (mk r)
 word_on s c mk r after = cond-true (eqb c c) _ _ (eq-eqb c c refl)
 
 -- a character takes some bytes
@@ -234,25 +234,25 @@ module _ (fs : Frames) (x : Content) where
   pub m_equals_space : (n : List ℕ) (ats : Attributes) (g m sp sp2 sp3 : List ℕ) (c : ℕ) → is_white c ≡ true → step (state_of fs x (tag n ats (equals g m sp sp2))) c ≡ Some (state_of fs x (tag n ats (equals g m sp sp3)))
   m_equals_space n ats g m sp sp2 sp3 c h = cond-true _ _ _ h
 
-  pub m_quote : (n : List ℕ) (ats : Attributes) (h : Head) → is_quote h.quote ≡ true → step (state_of fs x (tag n ats (equals h.gap h.name h.before h.behind))) h.quote ≡ Some (state_of fs x (tag n ats (value h blank_value)))
+  pub m_quote : (n : List ℕ) (ats : Attributes) (h : Head) → is_quote h.quote ≡ true → step (state_of fs x (tag n ats (equals h.gap h.name h.before h.behind))) h.quote ≡ Some (state_of fs x (tag n ats (value_part h blank_value)))
   m_quote n ats h k = cond-false _ _ _ (quote_not_space h.quote k) ∙ cond-true _ _ _ k
 
-  pub m_value : (n : List ℕ) (ats : Attributes) (h : Head) (v : AttributeValue) (c : ℕ) → is_value_char h.quote c ≡ true → step (state_of fs x (tag n ats (value h v))) c ≡ Some (state_of fs x (tag n ats (value h (value_char v c))))
+  pub m_value : (n : List ℕ) (ats : Attributes) (h : Head) (v : AttributeValue) (c : ℕ) → is_value_char h.quote c ≡ true → step (state_of fs x (tag n ats (value_part h v))) c ≡ Some (state_of fs x (tag n ats (value_part h (value_char v c))))
   m_value n ats h v c k = cond-true _ _ _ k
 
-  pub m_value_amp : (n : List ℕ) (ats : Attributes) (h : Head) (v : AttributeValue) → is_quote h.quote ≡ true → step (state_of fs x (tag n ats (value h v))) 38 ≡ Some (state_of fs x (tag n ats (value_amp h v (letters []))))
+  pub m_value_amp : (n : List ℕ) (ats : Attributes) (h : Head) (v : AttributeValue) → is_quote h.quote ≡ true → step (state_of fs x (tag n ats (value_part h v))) 38 ≡ Some (state_of fs x (tag n ats (value_amp h v (letters []))))
   m_value_amp n ats h v k = cond-false (eqb 38 h.quote) _ _ (not_amp h.quote k)
 
   pub m_value_refer : (n : List ℕ) (ats : Attributes) (h : Head) (v : AttributeValue) (r q : BegunReference) (c : ℕ) → refer (referring r) c ≡ More (referring q) → step (state_of fs x (tag n ats (value_amp h v r))) c ≡ Some (state_of fs x (tag n ats (value_amp h v q)))
   m_value_refer n ats h v r q c e = ap (on_referred (tag_state fs x n ats (value_amp h v r)) (InValueReference h.quote) (InValue h.quote)) e
 
-  pub m_value_referred : (n : List ℕ) (ats : Attributes) (h : Head) (v : AttributeValue) (r : BegunReference) (t : Reference) (c : ℕ) → refer (referring r) c ≡ Done (reference_char t) → step (state_of fs x (tag n ats (value_amp h v r))) c ≡ Some (state_of fs x (tag n ats (value h (value_reference v t))))
+  pub m_value_referred : (n : List ℕ) (ats : Attributes) (h : Head) (v : AttributeValue) (r : BegunReference) (t : Reference) (c : ℕ) → refer (referring r) c ≡ Done (reference_char t) → step (state_of fs x (tag n ats (value_amp h v r))) c ≡ Some (state_of fs x (tag n ats (value_part h (value_reference v t))))
   m_value_referred n ats h v r t c e = ap (on_referred (tag_state fs x n ats (value_amp h v r)) (InValueReference h.quote) (InValue h.quote)) e
 
   valued_tokens : (n : List ℕ) (ats : Attributes) (h : Head) (v : AttributeValue) → tag_tokens x n ats ++ (Start (encodes h.name) ∷ (text_of (value_run v) ++ (End ∷ []))) ≡ tag_tokens x n (attribute ats h v)
   valued_tokens n ats h v = rw (tokens-with_run none (value_run v)) (simp append_assoc)
 
-  pub m_valued : (n : List ℕ) (ats : Attributes) (h : Head) (v : AttributeValue) → step (state_of fs x (tag n ats (value h v))) h.quote ≡ Some (state_of fs x (tag n (attribute ats h v) no_part))
+  pub m_valued : (n : List ℕ) (ats : Attributes) (h : Head) (v : AttributeValue) → step (state_of fs x (tag n ats (value_part h v))) h.quote ≡ Some (state_of fs x (tag n (attribute ats h v) no_part))
   m_valued n ats h v =
       cond-false _ _ _ (not_value h.quote)
       ∙ cond-true _ _ _ (eq-eqb h.quote h.quote refl)

@@ -8,7 +8,7 @@ use Rattle.gcx_model.specs.References.{Reference, reference_spelling, IsReferenc
 use Rattle.gcx_model.specs.Attributes.{is_name, is_blank_text, is_gap, is_quote, is_fresh, AttributeValue, blank_value, value_char, value_reference, Head, Attributes, no_attribute, attribute, value_spelling, head_spelling, attributes_spelling, attribute_names, IsValue, IsHead, IsAttributes}
 use Rattle.gcx_model.specs.Markup.{CommentText, blank_comment, plain, dashed, CDSect, blank_cdsect, further, InstructionData, blank_data, data_char, data_spelling, IsInstructionData, Declaration, blank_declaration, doc_char, literal, doc_word, doc_start, is_literal_char, declaration_spelling, IsDeclaration, comment_spelling, comment_start, cdata_word, cdata_start, cdsect_spelling, IsCommentText, brackets, IsCDSect}
 use Rattle.gcx_model.specs.Grammar.{Content, nothing, mark, space, char, reference, cdata, comment, bare, instruction, doctype, single, tagged, start_tag_spelling, single_tag, end_tag_spelling, spelling, has_element, has_type, may_type, may_open, IsContent}
-use Rattle.gcx_model.specs.Fronts.{Frames, bottom, frame, Part, no_part, spaced, part_name, name_spaced, equals, value, value_amp, Piece, no_piece, less, started, tag, slashed, ending, ended, question, target, target_mark, in_instruction, doc_wording, doc_gap, doc, doc_literal, bang, bang_dash, in_comment, comment_dash, comment_end, cdsect_word, in_cdsect, amp, frames_spelling, piece_spelling, inside, IsFrames, IsPart, IsPiece, part_spelling, front_spelling, IsFront}
+use Rattle.gcx_model.specs.Fronts.{Frames, bottom, frame, Part, no_part, spaced, part_name, name_spaced, equals, value_part, value_amp, Piece, no_piece, less, started, tag, slashed, ending, ended, question, target, target_mark, in_instruction, doc_wording, doc_gap, doc, doc_literal, bang, bang_dash, in_comment, comment_dash, comment_end, cdsect_word, in_cdsect, amp, frames_spelling, piece_spelling, inside, IsFrames, IsPart, IsPiece, part_spelling, front_spelling, IsFront}
 use Rattle.doc_laws.specs.Machine.{State, start, steps}
 use Rattle.doc_laws.specs.States.{state_of}
 use Rattle.doc_laws.proofs.Referred.{begun_steps, referred_steps}
@@ -69,37 +69,37 @@ module _ (fs : Frames) (x : Content) where
       (steps_on_to s1 s2 m (sp ++ (61 ∷ (sp2 ++ cs))) o (attr_steps n ats g m h)
       (ap (steps s2) (sym (append_assoc sp (61 ∷ []) (sp2 ++ cs))) ∙ steps_on_to s2 s4 (sp ++ (61 ∷ [])) (sp2 ++ cs) o sign (steps_on_to s4 s4 sp2 cs o behind e)))
 
-  head_steps : (n : List ℕ) (ats : Attributes) (h : Head) → IsHead (attribute_names ats) h → steps (state_of fs x (tag_piece n ats)) (head_spelling h) ≡ Some (state_of fs x (tag n ats (value h blank_value)))
+  head_steps : (n : List ℕ) (ats : Attributes) (h : Head) → IsHead (attribute_names ats) h → steps (state_of fs x (tag_piece n ats)) (head_spelling h) ≡ Some (state_of fs x (tag n ats (value_part h blank_value)))
   head_steps n ats h g =
       equals_steps n ats h.gap h.name h.before h.behind (h.quote ∷ []) _ g.0 g.1 g.2 g.3 g.4
-      (step_end (state_of fs x (tag n ats (equals h.gap h.name h.before h.behind))) (state_of fs x (tag n ats (value h blank_value))) h.quote (m_quote fs x n ats h g.5))
+      (step_end (state_of fs x (tag n ats (equals h.gap h.name h.before h.behind))) (state_of fs x (tag n ats (value_part h blank_value))) h.quote (m_quote fs x n ats h g.5))
 
-  value_amp_steps : (n : List ℕ) (ats : Attributes) (h : Head) (v : AttributeValue) (r : BegunReference) → is_quote h.quote ≡ true → IsBegun r → steps (state_of fs x (tag n ats (value h v))) (begun_spelling r) ≡ Some (state_of fs x (tag n ats (value_amp h v r)))
-  value_amp_steps n ats h v r q g = begun_steps (λ r. state_of fs x (tag n ats (value_amp h v r))) (m_value_refer fs x n ats h v) (state_of fs x (tag n ats (value h v))) (m_value_amp fs x n ats h v q) r g
+  value_amp_steps : (n : List ℕ) (ats : Attributes) (h : Head) (v : AttributeValue) (r : BegunReference) → is_quote h.quote ≡ true → IsBegun r → steps (state_of fs x (tag n ats (value_part h v))) (begun_spelling r) ≡ Some (state_of fs x (tag n ats (value_amp h v r)))
+  value_amp_steps n ats h v r q g = begun_steps (λ r. state_of fs x (tag n ats (value_amp h v r))) (m_value_refer fs x n ats h v) (state_of fs x (tag n ats (value_part h v))) (m_value_amp fs x n ats h v q) r g
 
-  value_steps : (n : List ℕ) (ats : Attributes) (h : Head) (v : AttributeValue) → is_quote h.quote ≡ true → IsValue h.quote v → steps (state_of fs x (tag n ats (value h blank_value))) (value_spelling v) ≡ Some (state_of fs x (tag n ats (value h v)))
+  value_steps : (n : List ℕ) (ats : Attributes) (h : Head) (v : AttributeValue) → is_quote h.quote ≡ true → IsValue h.quote v → steps (state_of fs x (tag n ats (value_part h blank_value))) (value_spelling v) ≡ Some (state_of fs x (tag n ats (value_part h v)))
   value_steps n ats h blank_value q g = refl
   value_steps n ats h (value_char v c) q g =
-      steps_on_to (state_of fs x (tag n ats (value h blank_value))) (state_of fs x (tag n ats (value h v))) (value_spelling v) (c ∷ []) _ (value_steps n ats h v q g.0)
-      (step_end (state_of fs x (tag n ats (value h v))) _ c (m_value fs x n ats h v c g.1))
+      steps_on_to (state_of fs x (tag n ats (value_part h blank_value))) (state_of fs x (tag n ats (value_part h v))) (value_spelling v) (c ∷ []) _ (value_steps n ats h v q g.0)
+      (step_end (state_of fs x (tag n ats (value_part h v))) _ c (m_value fs x n ats h v c g.1))
   value_steps n ats h (value_reference v t) q g =
-      steps_on_to (state_of fs x (tag n ats (value h blank_value))) (state_of fs x (tag n ats (value h v))) (value_spelling v) (reference_spelling t) _ (value_steps n ats h v q g.0)
-      (referred_steps (λ r. state_of fs x (tag n ats (value_amp h v r))) (m_value_refer fs x n ats h v) (state_of fs x (tag n ats (value h v))) (state_of fs x (tag n ats (value h (value_reference v t)))) (m_value_amp fs x n ats h v q) t g.1
+      steps_on_to (state_of fs x (tag n ats (value_part h blank_value))) (state_of fs x (tag n ats (value_part h v))) (value_spelling v) (reference_spelling t) _ (value_steps n ats h v q g.0)
+      (referred_steps (λ r. state_of fs x (tag n ats (value_amp h v r))) (m_value_refer fs x n ats h v) (state_of fs x (tag n ats (value_part h v))) (state_of fs x (tag n ats (value_part h (value_reference v t)))) (m_value_amp fs x n ats h v q) t g.1
       (λ r e. m_value_referred fs x n ats h v r t 59 e))
 
-  in_value_steps : (n : List ℕ) (ats : Attributes) (h : Head) (v : AttributeValue) → IsHead (attribute_names ats) h → IsValue h.quote v → steps (state_of fs x (tag_piece n ats)) (head_spelling h ++ value_spelling v) ≡ Some (state_of fs x (tag n ats (value h v)))
-  in_value_steps n ats h v g k = steps_on_to (state_of fs x (tag_piece n ats)) (state_of fs x (tag n ats (value h blank_value))) (head_spelling h) (value_spelling v) _ (head_steps n ats h g) (value_steps n ats h v g.5 k)
+  in_value_steps : (n : List ℕ) (ats : Attributes) (h : Head) (v : AttributeValue) → IsHead (attribute_names ats) h → IsValue h.quote v → steps (state_of fs x (tag_piece n ats)) (head_spelling h ++ value_spelling v) ≡ Some (state_of fs x (tag n ats (value_part h v)))
+  in_value_steps n ats h v g k = steps_on_to (state_of fs x (tag_piece n ats)) (state_of fs x (tag n ats (value_part h blank_value))) (head_spelling h) (value_spelling v) _ (head_steps n ats h g) (value_steps n ats h v g.5 k)
 
-  behind_head : (n : List ℕ) (ats : Attributes) (h : Head) (v : AttributeValue) (cs : List ℕ) (o : Option State) → IsHead (attribute_names ats) h → IsValue h.quote v → steps (state_of fs x (tag n ats (value h v))) cs ≡ o → steps (state_of fs x (tag_piece n ats)) (head_spelling h ++ (value_spelling v ++ cs)) ≡ o
+  behind_head : (n : List ℕ) (ats : Attributes) (h : Head) (v : AttributeValue) (cs : List ℕ) (o : Option State) → IsHead (attribute_names ats) h → IsValue h.quote v → steps (state_of fs x (tag n ats (value_part h v))) cs ≡ o → steps (state_of fs x (tag_piece n ats)) (head_spelling h ++ (value_spelling v ++ cs)) ≡ o
   behind_head n ats h v cs o g k e =
-      steps_on_to (state_of fs x (tag_piece n ats)) (state_of fs x (tag n ats (value h blank_value))) (head_spelling h) (value_spelling v ++ cs) o (head_steps n ats h g)
-      (steps_on_to (state_of fs x (tag n ats (value h blank_value))) (state_of fs x (tag n ats (value h v))) (value_spelling v) cs o (value_steps n ats h v g.5 k) e)
+      steps_on_to (state_of fs x (tag_piece n ats)) (state_of fs x (tag n ats (value_part h blank_value))) (head_spelling h) (value_spelling v ++ cs) o (head_steps n ats h g)
+      (steps_on_to (state_of fs x (tag n ats (value_part h blank_value))) (state_of fs x (tag n ats (value_part h v))) (value_spelling v) cs o (value_steps n ats h v g.5 k) e)
 
   attributes_steps : (n : List ℕ) (ats : Attributes) → IsAttributes ats → steps (state_of fs x (started n)) (attributes_spelling ats) ≡ Some (state_of fs x (tag_piece n ats))
   attributes_steps n no_attribute g = refl
   attributes_steps n (attribute ats h v) g =
       steps_on_to (state_of fs x (started n)) (state_of fs x (tag_piece n ats)) (attributes_spelling ats) (head_spelling h ++ (value_spelling v ++ (h.quote ∷ []))) _ (attributes_steps n ats g.0)
-      (behind_head n ats h v (h.quote ∷ []) _ g.1 g.2 (step_end (state_of fs x (tag n ats (value h v))) _ h.quote (m_valued fs x n ats h v)))
+      (behind_head n ats h v (h.quote ∷ []) _ g.1 g.2 (step_end (state_of fs x (tag n ats (value_part h v))) _ h.quote (m_valued fs x n ats h v)))
 
   part_steps : (n : List ℕ) (ats : Attributes) (p : Part) → IsPart ats p → steps (state_of fs x (tag_piece n ats)) (part_spelling p) ≡ Some (state_of fs x (tag n ats p))
   part_steps n no_attribute no_part g = absurd (false≢true g)
@@ -110,7 +110,7 @@ module _ (fs : Frames) (x : Content) where
   part_steps n ats (equals g m sp sp2) k =
       ap (λ l. steps (state_of fs x (tag_piece n ats)) (g ++ (m ++ (sp ++ (61 ∷ l))))) (sym (append-nil sp2))
       ∙ equals_steps n ats g m sp sp2 [] _ k.0 k.1 k.2 k.3 k.4 refl
-  part_steps n ats (value h v) k = in_value_steps n ats h v k.0 k.1
+  part_steps n ats (value_part h v) k = in_value_steps n ats h v k.0 k.1
   part_steps n ats (value_amp h v r) k = behind_head n ats h v (begun_spelling r) _ k.0 k.1 (value_amp_steps n ats h v r k.0.5 k.2)
 
   -- over a start tag's name and attributes

@@ -4,7 +4,7 @@ use Rattle.std.specs.Prelude.{nat_le, bytes_eq}
 use Rattle.std.proofs.lemmas.Bool.{false≢true, cases_lt, and_parts, and_from, or_cases, or_left, or_right, cond-true, cond-false}
 use Rattle.std.proofs.lemmas.Option.{same_Some}
 use Rattle.gcx_base.specs.Characters.{between, is_char}
-use Rattle.gcx_model.specs.References.{Entity, less_than, greater_than, ampersand, apostrophe, quotation, entity_name, entity_char, Digits, no_digit, digit, digits_spelling, is_decimal, is_hexadecimal, AreDigits, worth, value_in, Reference, named, decimal, hexadecimal, reference_spelling, reference_char, IsReference, BegunReference, letters, number, decimals, hexadecimals, begun_spelling, is_front, begins_entity, greatest, IsBegun}
+use Rattle.gcx_model.specs.References.{Entity, less_than, greater_than, ampersand, apostrophe, quotation, entity_name, entity_char, Digits, no_digit, digit, digits_spelling, is_decimal, is_hexadecimal, AreDigits, worth, value_in, Reference, named, decimal_reference, hexadecimal_reference, reference_spelling, reference_char, IsReference, BegunReference, letters, number, decimals, hexadecimals, begun_spelling, is_front, begins_entity, greatest, IsBegun}
 use Rattle.doc_laws.specs.Machine.{Letters, Number, More, Done, Bad, entity_of, done_entity, is_empty, refer}
 use Rattle.doc_laws.specs.States.{referring}
 use Rattle.doc_laws.proofs.Tests.{same_is}
@@ -168,21 +168,21 @@ completes_decimal : (ds : Digits) (c : ℕ) → AreDigits is_decimal (digit ds c
 completes_decimal ds c g h = by (grows_ten (value_in 10 (digit ds c)) (leb-true (value_in 10 (digit ds c)) 1114111 h))
   where
     by : Growing 10 (value_in 10 (digit ds c)) → Completes (decimals ds c)
-    by (as_is k) = record { more = 59 ∷ []; reference = decimal (digit ds c); good = (g, k); spelled = refl }
-    by (by_nines k) = record { more = 57 ∷ (57 ∷ (59 ∷ [])); reference = decimal (digit (digit (digit ds c) 57) 57); good = (((g, refl), refl), k); spelled = simp append_assoc }
-    by (by_zero k) = record { more = 48 ∷ (59 ∷ []); reference = decimal (digit (digit ds c) 48); good = ((g, refl), k); spelled = simp append_assoc }
+    by (as_is k) = record { more = 59 ∷ []; reference = decimal_reference (digit ds c); good = (g, k); spelled = refl }
+    by (by_nines k) = record { more = 57 ∷ (57 ∷ (59 ∷ [])); reference = decimal_reference (digit (digit (digit ds c) 57) 57); good = (((g, refl), refl), k); spelled = simp append_assoc }
+    by (by_zero k) = record { more = 48 ∷ (59 ∷ []); reference = decimal_reference (digit (digit ds c) 48); good = ((g, refl), k); spelled = simp append_assoc }
 
 completes_hexadecimal : (ds : Digits) → AreDigits is_hexadecimal ds → nat_le (value_in 16 ds) greatest ≡ true → Completes (hexadecimals ds)
 completes_hexadecimal ds g h = by (grows_sixteen (value_in 16 ds) (leb-true (value_in 16 ds) 1114111 h))
   where
     by : Growing 16 (value_in 16 ds) → Completes (hexadecimals ds)
-    by (as_is k) = record { more = 59 ∷ []; reference = hexadecimal ds; good = (g, k); spelled = refl }
-    by (by_nines k) = record { more = 57 ∷ (57 ∷ (59 ∷ [])); reference = hexadecimal (digit (digit ds 57) 57); good = (((g, refl), refl), k); spelled = simp append_assoc }
-    by (by_zero k) = record { more = 48 ∷ (59 ∷ []); reference = hexadecimal (digit ds 48); good = ((g, refl), k); spelled = simp append_assoc }
+    by (as_is k) = record { more = 59 ∷ []; reference = hexadecimal_reference ds; good = (g, k); spelled = refl }
+    by (by_nines k) = record { more = 57 ∷ (57 ∷ (59 ∷ [])); reference = hexadecimal_reference (digit (digit ds 57) 57); good = (((g, refl), refl), k); spelled = simp append_assoc }
+    by (by_zero k) = record { more = 48 ∷ (59 ∷ []); reference = hexadecimal_reference (digit ds 48); good = ((g, refl), k); spelled = simp append_assoc }
 
 pub completes : (r : BegunReference) → IsBegun r → Completes r
 completes (letters m) h = completes_name m h
-completes number h = record { more = 57 ∷ (59 ∷ []); reference = decimal (digit no_digit 57); good = ((tt, refl), refl); spelled = refl }
+completes number h = record { more = 57 ∷ (59 ∷ []); reference = decimal_reference (digit no_digit 57); good = ((tt, refl), refl); spelled = refl }
 completes (decimals ds c) h = completes_decimal ds c h.0 h.1
 completes (hexadecimals ds) h = completes_hexadecimal ds h.0 h.1
 
@@ -224,7 +224,7 @@ refers_decimals ds e c g = by (is_decimal c) (nat_le ((value_in 10 (digit ds e))
     by true true d f p q s t = goes_on (decimals (digit ds e) c) ((g.0, p), q) refl (cond-true (is_decimal c) _ _ p ∙ cond-true (nat_le ((value_in 10 (digit ds e)) * 10 + worth c) greatest) _ _ q)
     by true false d f p q s t = is_bad (cond-true (is_decimal c) _ _ p ∙ cond-false (nat_le ((value_in 10 (digit ds e)) * 10 + worth c) greatest) _ _ q)
     by false b true true p q s t =
-        is_done (decimal (digit ds e)) (g.0, t) (ap (λ a. 38 ∷ (35 ∷ (digits_spelling (digit ds e) ++ (a ∷ [])))) (sym (eqb-true c 59 s)))
+        is_done (decimal_reference (digit ds e)) (g.0, t) (ap (λ a. 38 ∷ (35 ∷ (digits_spelling (digit ds e) ++ (a ∷ [])))) (sym (eqb-true c 59 s)))
         (cond-false (is_decimal c) _ _ p ∙ cond-true (eqb c 59) _ _ s ∙ cond-true (is_char (value_in 10 (digit ds e))) _ _ t)
     by false b true false p q s t = is_bad (cond-false (is_decimal c) _ _ p ∙ cond-true (eqb c 59) _ _ s ∙ cond-false (is_char (value_in 10 (digit ds e))) _ _ t)
     by false b false f p q s t = is_bad (cond-false (is_decimal c) _ _ p ∙ cond-false (eqb c 59) _ _ s)
@@ -236,7 +236,7 @@ refers_hexadecimals ds c g = by (is_hexadecimal c) (nat_le ((value_in 16 ds) * 1
     by true true d f p q s t = goes_on (hexadecimals (digit ds c)) ((g.0, p), q) refl (cond-true (is_hexadecimal c) _ _ p ∙ cond-true (nat_le ((value_in 16 ds) * 16 + worth c) greatest) _ _ q)
     by true false d f p q s t = is_bad (cond-true (is_hexadecimal c) _ _ p ∙ cond-false (nat_le ((value_in 16 ds) * 16 + worth c) greatest) _ _ q)
     by false b true true p q s t =
-        is_done (hexadecimal ds) (g.0, t) (ap (λ a. 38 ∷ (35 ∷ (120 ∷ (digits_spelling ds ++ (a ∷ []))))) (sym (eqb-true c 59 s)))
+        is_done (hexadecimal_reference ds) (g.0, t) (ap (λ a. 38 ∷ (35 ∷ (120 ∷ (digits_spelling ds ++ (a ∷ []))))) (sym (eqb-true c 59 s)))
         (cond-false (is_hexadecimal c) _ _ p ∙ cond-true (eqb c 59) _ _ s ∙ cond-true (is_char (value_in 16 ds)) _ _ t)
     by false b true false p q s t = is_bad (cond-false (is_hexadecimal c) _ _ p ∙ cond-true (eqb c 59) _ _ s ∙ cond-false (is_char (value_in 16 ds)) _ _ t)
     by false b false f p q s t = is_bad (cond-false (is_hexadecimal c) _ _ p ∙ cond-false (eqb c 59) _ _ s)

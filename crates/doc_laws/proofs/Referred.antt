@@ -1,7 +1,7 @@
 -- Each reference is read.
 use Rattle.std.proofs.Common.{ℕ, ◌≡◌, ◌≤◌, true, List, [], ◌∷◌, ◌++◌, Some, refl, sym, ap, ◌∙◌, append_assoc, append-nil, arith}
 use Rattle.std.proofs.lemmas.Bool.{false≢true}
-use Rattle.gcx_model.specs.References.{entity_name, no_digit, digit, digits_spelling, Digits, Reference, named, decimal, hexadecimal, reference_spelling, reference_char, IsReference, BegunReference, letters, number, decimals, hexadecimals, begun_spelling, begins_entity, IsBegun, value_in}
+use Rattle.gcx_model.specs.References.{entity_name, no_digit, digit, digits_spelling, Digits, Reference, named, decimal_reference, hexadecimal_reference, reference_spelling, reference_char, IsReference, BegunReference, letters, number, decimals, hexadecimals, begun_spelling, begins_entity, IsBegun, value_in}
 use Rattle.doc_laws.specs.Machine.{More, Done, State, refer, step, steps}
 use Rattle.doc_laws.specs.States.{referring}
 use Rattle.doc_laws.proofs.References.{name_on, name_done, begins_whole, begins_front, first_decimal, decimal_on, hexadecimal_on, decimal_done, hexadecimal_done, char_value, value_shorter}
@@ -42,10 +42,10 @@ module _ (at : BegunReference → State) (on : (r q : BegunReference) (c : ℕ) 
   referred_steps s u e (named n) g h =
       steps_on_to s (at (letters (entity_name n))) (38 ∷ entity_name n) (59 ∷ []) _ (begun_steps s e (letters (entity_name n)) (begins_whole n))
       (step_end (at (letters (entity_name n))) u 59 (h (letters (entity_name n)) (name_done n)))
-  referred_steps s u e (decimal no_digit) g h = absurd (false≢true g.1)
-  referred_steps s u e (decimal (digit ds c)) g h =
+  referred_steps s u e (decimal_reference no_digit) g h = absurd (false≢true g.1)
+  referred_steps s u e (decimal_reference (digit ds c)) g h =
       steps_on_to s (at (decimals ds c)) (38 ∷ (35 ∷ digits_spelling (digit ds c))) (59 ∷ []) _ (begun_steps s e (decimals ds c) (g.0, char_value (value_in 10 (digit ds c)) g.1))
       (step_end (at (decimals ds c)) u 59 (h (decimals ds c) (decimal_done ds c g.1)))
-  referred_steps s u e (hexadecimal ds) g h =
+  referred_steps s u e (hexadecimal_reference ds) g h =
       steps_on_to s (at (hexadecimals ds)) (38 ∷ (35 ∷ (120 ∷ digits_spelling ds))) (59 ∷ []) _ (begun_steps s e (hexadecimals ds) (g.0, char_value (value_in 16 ds) g.1))
       (step_end (at (hexadecimals ds)) u 59 (h (hexadecimals ds) (hexadecimal_done ds g.1)))

@@ -3,13 +3,13 @@ use Rattle.std.proofs.Common.{ℕ, ◌≡◌, Bool, true, false, not, ◌&&◌, 
 use lib.Utf8.{encode}
 use Rattle.gcx_base.specs.Characters.{is_char, is_white, is_start_char, is_part_char}
 use Rattle.gcx_model.specs.Document.{tokens}
-use Rattle.gcx_model.specs.Tree.{Token, End}
+use Rattle.gcx_model.specs.Tree.{TreeToken, End}
 use Rattle.gcx_model.specs.Attributes.{is_text_char, is_value_char, is_quote, is_fresh}
 use Rattle.gcx_model.specs.Markup.{is_doc_char, is_literal_char}
 use Rattle.gcx_model.specs.Grammar.{Content, nothing, mark, space, char, reference, cdata, comment, bare, instruction, doctype, single, tagged, spelling, has_element, may_open, IsContent, text_run, with_run, nodes, SpellsDocument}
 use Rattle.gcx_model.specs.Fronts.{Frames, bottom, frame, IsFrames, frames_spelling, inside, is_inside, text_of, seen_tokens}
 use Rattle.gcx_model.specs.Seen.{up_to_tag, ends_in_tag, end_tags, open_ends}
-use Rattle.doc_laws.specs.Machine.{Referred, More, Done, Bad, Referring, Mode, Opening, Between, Less, StartName, StartSpace, AttributeName, AttributeSpace, Equals, InValue, InValueReference, ValueEnd, Slash, EndName, EndSpace, Question, Target, TargetMark, InInstruction, DocWord, DocSpace, Doc, DocLiteral, Bang, BangDash, Comment, CommentDash, CommentEnd, CDSectWord, InCDSect, InReference, State, start, begun, on_between, on_tag, on_named, on_ended, on_referred, refer, behind, to_end_name, on_end, on_word, on_mode, steps, step, go_on}
+use Rattle.doc_laws.specs.Machine.{Referred, More, Done, Bad, ReferenceRead, MachineMode, Opening, Between, Less, StartName, StartSpace, AttributeName, AttributeSpace, Equals, InValue, InValueReference, ValueEnd, Slash, EndName, EndSpace, Question, Target, TargetMark, InInstruction, DocWord, DocSpace, Doc, DocLiteral, Bang, BangDash, Comment, CommentDash, CommentEnd, CDSectWord, InCDSect, InReference, State, start, begun, on_between, on_tag, on_named, on_ended, on_referred, refer, behind, to_end_name, on_end, on_word, on_mode, steps, step, go_on}
 use Rattle.doc_laws.specs.States.{rooted, Fronts}
 use Rattle.doc_laws.proofs.Moves.{steps_append, tokens-with_run, closed_tokens}
 use Rattle.doc_laws.proofs.Fronts.{some_is, none_some}
@@ -17,7 +17,7 @@ use Rattle.doc_laws.proofs.Theorems.{fronts_lead}
 
 -- a step leaves the tokens or puts others behind them
 pub record IsAfter (s t : State) : Type 0 where
-  pub more : List Token
+  pub more : List TreeToken
   pub tokens_are : t.tokens ≡ s.tokens ++ more
 
 abbrev Grows : State → Option State → Type 0
@@ -40,11 +40,11 @@ g2 s a b x y h k = grows_cond s a x _ h (g1 s b y k)
 g3 : (s : State) (a b c : Bool) (x y z : Option State) → Grows s x → Grows s y → Grows s z → Grows s (cond a x (cond b y (cond c z None)))
 g3 s a b c x y z h k l = grows_cond s a x _ h (g2 s b c y z k l)
 
-grows_word : (s : State) (c : ℕ) (mk : List ℕ → Mode) (left : List ℕ) (y : Option State) → Grows s y → Grows s (on_word s c mk left y)
+grows_word : (s : State) (c : ℕ) (mk : List ℕ → MachineMode) (left : List ℕ) (y : Option State) → Grows s y → Grows s (on_word s c mk left y)
 grows_word s c mk (d ∷ left) y h = g1 s (eqb c d) _ (same s _ refl)
 grows_word s c mk [] y h = h
 
-grows_referred : (s : State) (mk : Referring → Mode) (m : Mode) (a : Referred) → Grows s (on_referred s mk m a)
+grows_referred : (s : State) (mk : ReferenceRead → MachineMode) (m : MachineMode) (a : Referred) → Grows s (on_referred s mk m a)
 grows_referred s mk m (More r) = same s _ refl
 grows_referred s mk m (Done c) = same s _ refl
 grows_referred s mk m Bad = tt
@@ -71,7 +71,7 @@ grows_end s (x ∷ left) c = grows_to_end s (behind (encode c) (x ∷ left))
 grows_between : (s : State) (c : ℕ) → Grows s (on_between s c)
 grows_between s c = grows_cond s (is_text_char c && is_inside s.names) _ _ (same s _ refl) (g3 s (is_white c && not (is_inside s.names)) (eqb c 60) (eqb c 38 && is_inside s.names) _ _ _ (same s _ refl) (same s _ refl) (same s _ refl))
 
-grows_mode : (s : State) (c : ℕ) (m : Mode) → Grows s (on_mode s c m)
+grows_mode : (s : State) (c : ℕ) (m : MachineMode) → Grows s (on_mode s c m)
 grows_mode s c Opening = grows_cond s (eqb c 65279) _ _ (same s _ refl) (grows_between s c)
 grows_mode s c Between = grows_between s c
 grows_mode s c Less = grows_cond s (is_start_char c && may_open (is_inside s.names) s.rooted) _ _ (same s _ refl) (g3 s (eqb c 47 && is_inside s.names) (eqb c 33) (eqb c 63) _ _ _ (same s _ refl) (same s _ refl) (same s _ refl))

@@ -9,9 +9,9 @@ use Rattle.gcx_model.specs.Document.{tokens}
 use Rattle.gcx_model.specs.Attributes.{is_text_char, is_value_char, is_quote, is_fresh, Attributes}
 use Rattle.gcx_model.specs.Markup.{is_doc_char, is_literal_char}
 use Rattle.gcx_model.specs.Grammar.{Content, may_open, text_run, attribute_nodes}
-use Rattle.gcx_model.specs.Fronts.{Frames, Part, no_part, spaced, part_name, name_spaced, equals, value, value_amp, Piece, no_piece, less, started, tag, is_inside, names, text_of}
+use Rattle.gcx_model.specs.Fronts.{Frames, Part, no_part, spaced, part_name, name_spaced, equals, value_part, value_amp, Piece, no_piece, less, started, tag, is_inside, names, text_of}
 use Rattle.gcx_model.specs.Faults.{size, IsFullTag, IsFullAttribute, IsDeep}
-use Rattle.doc_laws.specs.Machine.{Referred, More, Done, Bad, Referring, Mode, Opening, Between, Less, StartName, StartSpace, AttributeName, AttributeSpace, Equals, InValue, InValueReference, ValueEnd, Slash, EndName, EndSpace, Question, Target, TargetMark, InInstruction, DocWord, DocSpace, Doc, DocLiteral, Bang, BangDash, Comment, CommentDash, CommentEnd, CDSectWord, InCDSect, InReference, State, begun, on_between, on_tag, on_named, on_ended, on_referred, refer, behind, to_end_name, on_end, on_word, on_mode, step, steps, go_on}
+use Rattle.doc_laws.specs.Machine.{Referred, More, Done, Bad, ReferenceRead, MachineMode, Opening, Between, Less, StartName, StartSpace, AttributeName, AttributeSpace, Equals, InValue, InValueReference, ValueEnd, Slash, EndName, EndSpace, Question, Target, TargetMark, InInstruction, DocWord, DocSpace, Doc, DocLiteral, Bang, BangDash, Comment, CommentDash, CommentEnd, CDSectWord, InCDSect, InReference, State, begun, on_between, on_tag, on_named, on_ended, on_referred, refer, behind, to_end_name, on_end, on_word, on_mode, step, steps, go_on}
 use Rattle.doc_laws.specs.States.{part_mode, piece_mode, is_opening, tag_tokens, state_of, Fronts}
 use Rattle.doc_laws.specs.Judging.{naming_by, is_deep, deep_place}
 use Rattle.doc_laws.proofs.Moves.{some_bytes, m_started, m_attr}
@@ -38,10 +38,10 @@ Goes s (Some t) = (weight s < weight t) ⊎ Leaves s t
 stays : (s : State) → Leaves s s
 stays s = record { same = refl; names_are = refl; run_grows = omega arith; name_grows = omega arith; attr_grows = omega arith }
 
-turns : (s : State) (m : Mode) → Goes s (Some (record s { mode = m }))
+turns : (s : State) (m : MachineMode) → Goes s (Some (record s { mode = m }))
 turns s m = inr (record { same = refl; names_are = refl; run_grows = omega arith; name_grows = omega arith; attr_grows = omega arith })
 
-runs : (s : State) (m : Mode) (bytes : List ℕ) → Goes s (Some (record s { mode = m; run = s.run ++ bytes }))
+runs : (s : State) (m : MachineMode) (bytes : List ℕ) → Goes s (Some (record s { mode = m; run = s.run ++ bytes }))
 runs s m bytes = inr (record { same = refl; names_are = refl; run_grows = omega (arith, length-append s.run bytes); name_grows = omega arith; attr_grows = omega arith })
 
 either : (s : State) (b : Bool) (x y : Option State) → Goes s x → Goes s y → Goes s (cond b x y)
@@ -57,11 +57,11 @@ g2 s a b x y h k = either s a x _ h (g1 s b y k)
 g3 : (s : State) (a b c : Bool) (x y z : Option State) → Goes s x → Goes s y → Goes s z → Goes s (cond a x (cond b y (cond c z None)))
 g3 s a b c x y z h k l = either s a x _ h (g2 s b c y z k l)
 
-goes_word : (s : State) (c : ℕ) (mk : List ℕ → Mode) (left : List ℕ) (y : Option State) → Goes s y → Goes s (on_word s c mk left y)
+goes_word : (s : State) (c : ℕ) (mk : List ℕ → MachineMode) (left : List ℕ) (y : Option State) → Goes s y → Goes s (on_word s c mk left y)
 goes_word s c mk (d ∷ left) y h = g1 s (eqb c d) _ (turns s (mk left))
 goes_word s c mk [] y h = h
 
-goes_referred : (s : State) (mk : Referring → Mode) (m : Mode) (a : Referred) → Goes s (on_referred s mk m a)
+goes_referred : (s : State) (mk : ReferenceRead → MachineMode) (m : MachineMode) (a : Referred) → Goes s (on_referred s mk m a)
 goes_referred s mk m (More r) = turns s (mk r)
 goes_referred s mk m (Done c) = runs s m (encode c)
 goes_referred s mk m Bad = tt
@@ -96,14 +96,14 @@ goes_between : (s : State) (c : ℕ) → Goes s (on_between s c)
 goes_between s c = either s (is_text_char c && is_inside s.names) _ _ (runs s Between (encode c)) (g3 s (is_white c && not (is_inside s.names)) (eqb c 60) (eqb c 38 && is_inside s.names) _ _ _ (turns s Between) (turns s Less) (turns s (InReference _)))
 
 -- what is known of a state in its mode
-abbrev Ready : State → Mode → Type 0
+abbrev Ready : State → MachineMode → Type 0
 Ready s Less = s.name ≡ []
 Ready s StartName = s.pending ≡ []
 Ready s StartSpace = (s.attr ≡ []) × (0 < length s.pending)
 Ready s ValueEnd = 0 < length s.pending
 Ready s other = Unit {0}
 
-goes_mode : (s : State) (c : ℕ) (m : Mode) → Ready s m → Goes s (on_mode s c m)
+goes_mode : (s : State) (c : ℕ) (m : MachineMode) → Ready s m → Goes s (on_mode s c m)
 goes_mode s c Opening r = either s (eqb c 65279) _ _ (turns s Between) (goes_between s c)
 goes_mode s c Between r = goes_between s c
 goes_mode s c Less r =
@@ -157,7 +157,7 @@ ready_part fs x n ats (spaced g) = (refl, tag_waits x n ats)
 ready_part fs x n ats (part_name g m) = tt
 ready_part fs x n ats (name_spaced g m sp) = tt
 ready_part fs x n ats (equals g m sp sp2) = tt
-ready_part fs x n ats (value h v) = tt
+ready_part fs x n ats (value_part h v) = tt
 ready_part fs x n ats (value_amp h v r) = tt
 
 ready_piece : (fs : Frames) (x : Content) (p : Piece) → Ready (state_of fs x p) (piece_mode fs x p)
@@ -251,7 +251,7 @@ never_deep lim a s u t c f d l k h = false_from_ne_true (is_deep lim s c) (λ e.
     no : IsDeep lim a c (deep_place (size a) s.mode) → ⊥
     no w = elim w.1 [ inl q ↦ of_tag w.0 q.0 | inr q ↦ of_attribute w.0 q.0 ]
 
-naming_short : (k : ℕ) (m : Mode) (t : State) → length t.name ≤ k → length t.attr ≤ k → length (naming_by m t) ≤ k
+naming_short : (k : ℕ) (m : MachineMode) (t : State) → length t.name ≤ k → length t.attr ≤ k → length (naming_by m t) ≤ k
 naming_short k StartName t h g = h
 naming_short k AttributeName t h g = g
 naming_short k other t h g = omega arith

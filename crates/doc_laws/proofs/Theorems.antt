@@ -2,10 +2,10 @@
 use Rattle.std.proofs.Common.{ℕ, ◌≡◌, Bool, true, false, ◌||◌, ◌&&◌, cond, List, [], ◌∷◌, ◌++◌, Option, Some, None, refl, sym, ap, ◌∙◌, subst, append_assoc, append-nil, ◌↔◌}
 use Rattle.std.proofs.lemmas.Bool.{false≢true, and_parts, and_from}
 use Rattle.gcx_model.specs.Document.{Nodes, none, element, text, tokens}
-use Rattle.gcx_model.specs.Tree.{Token, Start, End, Chars}
+use Rattle.gcx_model.specs.Tree.{TreeToken, Start, End, Chars}
 use Rattle.gcx_model.specs.Grammar.{Content, nothing, spelling, has_element, nodes, SpellsDocument, Viable}
-use Rattle.gcx_model.specs.Fronts.{Frames, bottom, frame, Part, no_part, spaced, part_name, name_spaced, equals, value, value_amp, Piece, no_piece, tag, front_spelling, IsFront, OpensFrames}
-use Rattle.doc_laws.specs.Machine.{Mode, Opening, Between, State, start, steps, step, go_on, is_whole, is_between}
+use Rattle.gcx_model.specs.Fronts.{Frames, bottom, frame, Part, no_part, spaced, part_name, name_spaced, equals, value_part, value_amp, Piece, no_piece, tag, front_spelling, IsFront, OpensFrames}
+use Rattle.doc_laws.specs.Machine.{MachineMode, Opening, Between, State, start, steps, step, go_on, is_whole, is_between}
 use Rattle.doc_laws.specs.States.{part_mode, is_nothing, rest_mode, piece_mode, state_of, Fronts}
 use Rattle.doc_laws.proofs.Moves.{steps_append}
 use Rattle.doc_laws.proofs.Reached.{front_steps, content_steps}
@@ -70,7 +70,7 @@ part_within (spaced g) = refl
 part_within (part_name g m) = refl
 part_within (name_spaced g m sp) = refl
 part_within (equals g m sp sp2) = refl
-part_within (value h v) = refl
+part_within (value_part h v) = refl
 part_within (value_amp h v r) = refl
 
 -- a root is something
@@ -101,18 +101,18 @@ not_whole b s d f h sp =
     let w : is_whole (state_of bottom x no_piece) ≡ true = and_from (is_between (rest_mode bottom x)) (has_element x || false) rest (ap (λ r. r || false) sp.root) in
     false≢true (sym h ∙ ap is_whole e ∙ w)
   where
-    rested : Bool → Mode
+    rested : Bool → MachineMode
     rested b = cond (b && true) Opening Between
 
 -- the tree of tokens
-abbrev build : List (Nodes × List ℕ) → Nodes → List Token → Nodes
+abbrev build : List (Nodes × List ℕ) → Nodes → List TreeToken → Nodes
 build st ns [] = ns
 build st ns (Start n ∷ ts) = build ((ns, n) ∷ st) none ts
 build [] ns (End ∷ ts) = ns
 build ((before, n) ∷ st) ns (End ∷ ts) = build st (element before n ns) ts
 build st ns (Chars t ∷ ts) = build st (text ns t) ts
 
-build_tokens : (d : Nodes) (st : List (Nodes × List ℕ)) (rest : List Token) → build st none (tokens d ++ rest) ≡ build st d rest
+build_tokens : (d : Nodes) (st : List (Nodes × List ℕ)) (rest : List TreeToken) → build st none (tokens d ++ rest) ≡ build st d rest
 build_tokens none st rest = refl
 build_tokens (element before n inner) st rest =
     ap (build st none) (append_assoc (tokens before) _ rest)

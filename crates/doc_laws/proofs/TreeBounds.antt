@@ -5,7 +5,7 @@ use lib.Utf8.{encodes}
 use Rattle.gcx_base.specs.declared.kind.Kind.{Kind}
 use Rattle.gcx_base.specs.declared.kind.Kind.TheVariants.{Document, Element, Text}
 use Rattle.gcx_base.specs.declared.limits.Limits.{Limits}
-use Rattle.gcx_model.specs.Tree.{Node, Root, Under, Tree, Token, Start, Chars, End, opening, grow, grow_at, grow_all}
+use Rattle.gcx_model.specs.Tree.{Node, Root, Under, Tree, TreeToken, Start, Chars, End, opening, grow, grow_at, grow_all}
 use Rattle.gcx_model.specs.Members.{In}
 use Rattle.gcx_model.specs.Growth.{level}
 use Rattle.gcx_model.specs.Grammar.{spelling}
@@ -36,11 +36,11 @@ parent_has p s (Element name) h = h
 parent_has p s (Text b) h = absurd h
 
 -- the innermost open node is none or such
-at_has : (ts : List Token) (P : Tree) → AtHasChildren P.at → AtHasChildren (grow_all ts P).at
+at_has : (ts : List TreeToken) (P : Tree) → AtHasChildren P.at → AtHasChildren (grow_all ts P).at
 at_has [] P h = h
 at_has (t ∷ ts) P h = at_has ts (grow t P) (one P.at t refl h)
   where
-    one : (at : Option Node) (t : Token) → P.at ≡ at → AtHasChildren at → AtHasChildren (grow_at at t P).at
+    one : (at : Option Node) (t : TreeToken) → P.at ≡ at → AtHasChildren at → AtHasChildren (grow_at at t P).at
     one None t e h = subst AtHasChildren (sym e) h
     one (Some p) (Start name) e h = h
     one (Some p) (Chars b) e h = h
@@ -55,7 +55,7 @@ at_low most P (Under p s (Element name)) h i k = h (Under p s (Element name)) na
 at_low most P (Under p s (Text b)) h i k = absurd k
 
 -- the end of the document node opens no node, and adds none
-no_opens : (lim : Limits) (b : List ℕ) (over : Bool) (ends : List Token) → DocumentEnds lim b over ends → opens ends ≡ 0
+no_opens : (lim : Limits) (b : List ℕ) (over : Bool) (ends : List TreeToken) → DocumentEnds lim b over ends → opens ends ≡ 0
 no_opens lim b over ends (closes i f e) = ap opens e
 no_opens lim b over ends (stays_open n e) = ap opens e
 
@@ -64,7 +64,7 @@ end_nodes None P = refl
 end_nodes (Some Root) P = refl
 end_nodes (Some (Under p s k)) P = refl
 
-no_nodes : (lim : Limits) (b : List ℕ) (over : Bool) (ends : List Token) (P : Tree) → DocumentEnds lim b over ends → (grow_all ends P).nodes ≡ P.nodes
+no_nodes : (lim : Limits) (b : List ℕ) (over : Bool) (ends : List TreeToken) (P : Tree) → DocumentEnds lim b over ends → (grow_all ends P).nodes ≡ P.nodes
 no_nodes lim b over ends P (closes i f e) = ap (λ l. (grow_all l P).nodes) e ∙ end_nodes P.at P
 no_nodes lim b over ends P (stays_open n e) = ap (λ l. (grow_all l P).nodes) e
 

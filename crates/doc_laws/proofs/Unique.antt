@@ -9,7 +9,7 @@ use Rattle.gcx_model.specs.Document.{Nodes}
 use Rattle.gcx_model.specs.Grammar.{SpellsDocument}
 use Rattle.gcx_model.specs.declared.fault.DocFault.{DocFault}
 use Rattle.gcx_model.specs.declared.fault.DocFault.TheVariants.{Utf8, Truncated}
-use Rattle.gcx_model.specs.Faults.{Refusal, fault_of, Clean, ComesFirst, size, IsCharFront, IsNotUtf8, FaultWithin, by_character, by_sequence, by_cut, by_end, none_yet, none_whole, FaultIs, within_limit, before_limit, past_limit}
+use Rattle.gcx_model.specs.Faults.{DocumentRefusal, fault_of, Clean, ComesFirst, size, IsCharFront, IsNotUtf8, FaultWithin, by_character, by_sequence, by_cut, by_end, none_yet, none_whole, FaultIs, within_limit, before_limit, past_limit}
 use Rattle.doc_laws.specs.Machine.{State, start}
 use Rattle.doc_laws.specs.Judging.{judged, on_ok, judged_steps}
 use Rattle.doc_laws.proofs.Faults.{Reads, Said, judged_says, start_reads, comes_refusal}
@@ -18,7 +18,7 @@ use Rattle.doc_laws.proofs.Faults.{Reads, Said, judged_says, start_reads, comes_
 pub judged_append : (lim : Limits) (k : ℕ) (s : State) (a b : List ℕ) → judged_steps lim k s (a ++ b) ≡ on_ok (judged_steps lim k s a) (λ t. judged_steps lim (k + size a) t b)
 judged_append lim k s [] b = let e : k ≡ k + size [] = omega arith in ap (λ n. judged_steps lim n s b) e
 judged_append lim k s (c ∷ a) b =
-    elim (judged lim k s c) as (λ (r : Result State Refusal). on_ok r (λ t. judged_steps lim (k + len_utf8 c) t (a ++ b)) ≡ on_ok (on_ok r (λ t. judged_steps lim (k + len_utf8 c) t a)) (λ t. judged_steps lim (k + size (c ∷ a)) t b)) [
+    elim (judged lim k s c) as (λ (r : Result State DocumentRefusal). on_ok r (λ t. judged_steps lim (k + len_utf8 c) t (a ++ b)) ≡ on_ok (on_ok r (λ t. judged_steps lim (k + len_utf8 c) t a)) (λ t. judged_steps lim (k + size (c ∷ a)) t b)) [
       | Err f ↦ refl
       | Ok t ↦
           let e : (k + len_utf8 c) + size a ≡ k + size (c ∷ a) = omega arith in
@@ -29,12 +29,12 @@ judged_append lim k s (c ∷ a) b =
 pub clean_reads : (lim : Limits) (cs : List ℕ) → Clean lim cs → (t : State) × Reads lim cs t × (judged_steps lim 0 start cs ≡ Ok t)
 clean_reads lim cs h = by (judged_steps lim 0 start cs) refl (judged_says lim [] start cs (start_reads lim))
   where
-    by : (r : Result State Refusal) → judged_steps lim 0 start cs ≡ r → Said lim cs r → (t : State) × Reads lim cs t × (judged_steps lim 0 start cs ≡ Ok t)
+    by : (r : Result State DocumentRefusal) → judged_steps lim 0 start cs ≡ r → Said lim cs r → (t : State) × Reads lim cs t × (judged_steps lim 0 start cs ≡ Ok t)
     by (Ok t) e s = (t, s, e)
     by (Err f) e s = absurd (h s.front s.at s.rest f s.parts s.comes)
 
 -- the fault that comes first is what the judged steps answer
-pub first_judged : (lim : Limits) (cs : List ℕ) (f : Refusal) → ComesFirst lim cs f → judged_steps lim 0 start cs ≡ Err f
+pub first_judged : (lim : Limits) (cs : List ℕ) (f : DocumentRefusal) → ComesFirst lim cs f → judged_steps lim 0 start cs ≡ Err f
 first_judged lim cs f h =
     let r = clean_reads lim h.front h.clean in
     let refusal : judged lim (size h.front) r.0 h.at ≡ Err f = comes_refusal lim h.front h.at r.0 f r.1.front r.1.short h.comes in
@@ -45,16 +45,16 @@ first_judged lim cs f h =
     ∙ ap (λ n. judged_steps lim n r.0 (h.at ∷ h.rest)) e
     ∙ ap (λ q. on_ok q (λ t. judged_steps lim (size h.front + len_utf8 h.at) t h.rest)) refusal
 
-same_err : (f g : Refusal) → ◌≡◌ {A = Result State Refusal} (Err f) (Err g) → f ≡ g
+same_err : (f g : DocumentRefusal) → ◌≡◌ {A = Result State DocumentRefusal} (Err f) (Err g) → f ≡ g
 same_err f g e = cc
 
-pub first_one : (lim : Limits) (cs : List ℕ) (f g : Refusal) → ComesFirst lim cs f → ComesFirst lim cs g → f ≡ g
+pub first_one : (lim : Limits) (cs : List ℕ) (f g : DocumentRefusal) → ComesFirst lim cs f → ComesFirst lim cs g → f ≡ g
 first_one lim cs f g h k = same_err f g (sym (first_judged lim cs f h) ∙ first_judged lim cs g k)
 
-pub first_more : (lim : Limits) (cs more : List ℕ) (f : Refusal) → ComesFirst lim cs f → ComesFirst lim (cs ++ more) f
+pub first_more : (lim : Limits) (cs more : List ℕ) (f : DocumentRefusal) → ComesFirst lim cs f → ComesFirst lim (cs ++ more) f
 first_more lim cs more f h = record { front = h.front; at = h.at; rest = h.rest ++ more; parts = ap (λ l. l ++ more) h.parts ∙ append_assoc h.front (h.at ∷ h.rest) more; clean = h.clean; comes = h.comes }
 
-pub first_unclean : {X : Type 0} (lim : Limits) (cs : List ℕ) (f : Refusal) → ComesFirst lim cs f → Clean lim cs → X
+pub first_unclean : {X : Type 0} (lim : Limits) (cs : List ℕ) (f : DocumentRefusal) → ComesFirst lim cs f → Clean lim cs → X
 first_unclean lim cs f h k = absurd (k h.front h.at h.rest f h.parts h.comes)
 
 pub clean_front : (lim : Limits) (cs more : List ℕ) → Clean lim (cs ++ more) → Clean lim cs
@@ -110,7 +110,7 @@ data Why (lim : Limits) (cs q : List ℕ) (ended : Bool) (o : Option DocFault) :
 
 -- a character makes a fault, or the characters end
 data Shape (lim : Limits) (b : List ℕ) (ended : Bool) (o : Option DocFault) : Type 0 where
-  made : (cs rest : List ℕ) (f : Refusal) → scalars cs ≡ true → b ≡ encodes cs ++ rest → ComesFirst lim cs f → o ≡ Some (fault_of f) → Shape lim b ended o
+  made : (cs rest : List ℕ) (f : DocumentRefusal) → scalars cs ≡ true → b ≡ encodes cs ++ rest → ComesFirst lim cs f → o ≡ Some (fault_of f) → Shape lim b ended o
   ends : (cs q : List ℕ) → scalars cs ≡ true → b ≡ encodes cs ++ q → NoChar q → Clean lim cs → Why lim cs q ended o → Shape lim b ended o
 
 shape : (lim : Limits) (b : List ℕ) (ended : Bool) (o : Option DocFault) → FaultWithin lim b ended o → Shape lim b ended o
@@ -148,7 +148,7 @@ why_one lim cs q ended o p (whole z c d s i e) (short z2 c2 n2 i2 f) = absurd (n
 why_one lim cs q ended o p (whole z c d s i e) (open_still c2 i2 f) = e ∙ sym f
 why_one lim cs q ended o p (whole z c d s i e) (whole z2 c2 d2 s2 i2 f) = e ∙ sym f
 
-made_ends : {X : Type 0} (lim : Limits) (b cs rest ds q : List ℕ) (f : Refusal) → scalars cs ≡ true → b ≡ encodes cs ++ rest → ComesFirst lim cs f → b ≡ encodes ds ++ q → NoChar q → Clean lim ds → X
+made_ends : {X : Type 0} (lim : Limits) (b cs rest ds q : List ℕ) (f : DocumentRefusal) → scalars cs ≡ true → b ≡ encodes cs ++ rest → ComesFirst lim cs f → b ≡ encodes ds ++ q → NoChar q → Clean lim ds → X
 made_ends lim b cs rest ds q f s e c e2 n cl =
     let k = longest b cs rest ds q e e2 s n in
     first_unclean lim (cs ++ k.0) f (first_more lim cs k.0 f c) (subst (Clean lim) k.1 cl)

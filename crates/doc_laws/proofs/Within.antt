@@ -11,8 +11,8 @@ use Rattle.gcx_model.specs.Attributes.{is_name, is_blank_text, is_gap, Attribute
 use Rattle.gcx_model.specs.Markup.{comment_spelling, comment_start, cdata_start, cdsect_spelling, settled, data_spelling, doc_start, declaration_spelling}
 use Rattle.gcx_model.specs.References.{reference_spelling, reference_char}
 use Rattle.gcx_model.specs.Grammar.{Content, nothing, mark, space, char, reference, cdata, comment, bare, instruction, doctype, single, tagged, start_tag_spelling, single_tag, end_tag_spelling, spelling, has_element, may_open, IsContent, text_run, SpellsDocument}
-use Rattle.gcx_model.specs.Fronts.{Frames, bottom, frame, no_part, spaced, part_name, value, Piece, no_piece, less, started, tag, slashed, ending, ended, frames_spelling, piece_spelling, front_spelling, IsFrames, IsPiece, IsFront, inside, names, depth, piece_run}
-use Rattle.gcx_model.specs.Faults.{Refusal, size, Clean, FaultWithin, by_character, by_sequence, by_cut, by_end, none_yet, none_whole, FaultIs, within_limit, before_limit, past_limit}
+use Rattle.gcx_model.specs.Fronts.{Frames, bottom, frame, no_part, spaced, part_name, value_part, Piece, no_piece, less, started, tag, slashed, ending, ended, frames_spelling, piece_spelling, front_spelling, IsFrames, IsPiece, IsFront, inside, names, depth, piece_run}
+use Rattle.gcx_model.specs.Faults.{DocumentRefusal, size, Clean, FaultWithin, by_character, by_sequence, by_cut, by_end, none_yet, none_whole, FaultIs, within_limit, before_limit, past_limit}
 use Rattle.gcx_model.specs.Within.{AreAttributesWithin, IsTagWithin, IsContentWithin, IsWithin}
 use Rattle.doc_laws.specs.Machine.{State, start, step, steps, go_on}
 use Rattle.doc_laws.specs.States.{piece_mode, state_of, Fronts}
@@ -88,12 +88,12 @@ module _ (lim : Limits) where
     attribute_reads ats h v c gap e g k d m r =
         let white : is_white c ≡ true = (and_parts (is_white c) (list_all is_white gap) (ap is_gap (sym e) ∙ g.1.0)).0 in
         let r1 = gap_reads ats c g.0 white r in
-        let good : IsFront fs x (tag n ats (value h v)) = (frames, content, (may, name, g.0, (g.1, g.2))) in
-        let r2 = on_along fs fs x x (tag n ats (spaced (c ∷ []))) (tag n ats (value h v)) (gap ++ (h.name ++ (h.before ++ (61 ∷ (h.behind ++ (h.quote ∷ value_spelling v)))))) (frames, content, (may, name, g.0, ap (λ b. b && true) white)) good
+        let good : IsFront fs x (tag n ats (value_part h v)) = (frames, content, (may, name, g.0, (g.1, g.2))) in
+        let r2 = on_along fs fs x x (tag n ats (spaced (c ∷ []))) (tag n ats (value_part h v)) (gap ++ (h.name ++ (h.before ++ (61 ∷ (h.behind ++ (h.quote ∷ value_spelling v)))))) (frames, content, (may, name, g.0, ap (λ b. b && true) white)) good
         (ap (λ l. (frames_spelling fs ++ spelling x) ++ (60 ∷ (n ++ (attributes_spelling ats ++ ((l ++ (h.name ++ (h.before ++ (61 ∷ (h.behind ++ (h.quote ∷ [])))))) ++ value_spelling v))))) e ∙ (simp append_assoc))
         refl
         (record { run_short = k.3; name_short = m; attr_short = k.2; element = inr (omega (arith, d, depth_names fs)); attribute = inr (omega (arith, k.1, depth_names fs)) }) r1 in
-        on_one fs fs x x (tag n ats (value h v)) (tag n (attribute ats h v) no_part) h.quote good (frames, content, (may, name, g, refl))
+        on_one fs fs x x (tag n ats (value_part h v)) (tag n (attribute ats h v) no_part) h.quote good (frames, content, (may, name, g, refl))
         (simp (append_assoc, append-nil)) (and_right (is_start_char h.quote) false refl) (omega arith) (omega arith) r2
 
     attributes_read : (ats : Attributes) → IsAttributes ats → AreAttributesWithin lim (depth fs + 1) ats → depth fs + 1 ≤ lim.depth → length (encodes n) ≤ lim.name → ReadsTo fs x (started n) → ReadsTo fs x (tag_piece n ats)
@@ -197,7 +197,7 @@ module _ (lim : Limits) where
   -- the other way: the tests of the last character
   last_tests : (b : List ℕ) (c : ℕ) (s t : State) → Clean lim (b ++ (c ∷ [])) → Fronts b s → Fronts (b ++ (c ∷ [])) t → (is_deep lim s c ≡ false) × (length (naming_by t.mode t) ≤ lim.name)
   last_tests b c s t h f g =
-      elim (judged lim (size b) s c) as (λ (r : Result State Refusal). judged lim (size b) s c ≡ r → (is_deep lim s c ≡ false) × (length (naming_by t.mode t) ≤ lim.name)) [
+      elim (judged lim (size b) s c) as (λ (r : Result State DocumentRefusal). judged lim (size b) s c ≡ r → (is_deep lim s c ≡ false) × (length (naming_by t.mode t) ≤ lim.name)) [
         | Err e ↦ λ d. absurd (h b c [] e refl (refusal_comes lim b c s e f short d))
         | Ok u ↦ λ d. by (step s c) refl u d
       ] refl
@@ -205,7 +205,7 @@ module _ (lim : Limits) where
       short : length s.run ≤ lim.text
       short = let r = clean_reads lim b (clean_front lim b (c ∷ []) h) in subst (λ (z : State). length z.run ≤ lim.text) (fronts_one b r.0 s r.1.front f) r.1.short
 
-      tests : (k : ℕ) (v : State) (p q r : Bool) (e i o : Refusal) (u : State) → cond p (Err e) (cond q (Err i) (cond r (Err o) (Ok v))) ≡ Ok u → (q ≡ false) × (r ≡ false)
+      tests : (k : ℕ) (v : State) (p q r : Bool) (e i o : DocumentRefusal) (u : State) → cond p (Err e) (cond q (Err i) (cond r (Err o) (Ok v))) ≡ Ok u → (q ≡ false) × (r ≡ false)
       tests k v true q r e i o u d = err_ok e u d
       tests k v false true r e i o u d = err_ok i u d
       tests k v false false true e i o u d = err_ok o u d
@@ -268,7 +268,7 @@ module _ (lim : Limits) where
           name_within fs x (tag n ats (part_name k.gap k.name)) ((frames_spelling fs ++ spelling x) ++ (60 ∷ (n ++ (attributes_spelling ats ++ (k.gap ++ l.0))))) l.1 behind (frames, content, (may, name, g.0, (g.1.0, g.1.1)))
           (ap (λ z. (frames_spelling fs ++ spelling x) ++ (60 ∷ (n ++ (attributes_spelling ats ++ (k.gap ++ z))))) l.2 ∙ (simp append_assoc))
           (subst (Clean lim) (simp append_assoc) h),
-      run_within fs x (tag n ats (value k v)) rest (frames, content, (may, name, g.0, (g.1, g.2))) (subst (Clean lim) (simp append_assoc) h),
+      run_within fs x (tag n ats (value_part k v)) rest (frames, content, (may, name, g.0, (g.1, g.2))) (subst (Clean lim) (simp append_assoc) h),
     )
       where
         behind : List ℕ

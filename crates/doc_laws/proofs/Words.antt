@@ -4,7 +4,7 @@ use Rattle.std.proofs.lemmas.Bool.{false≢true, and_parts, and_from}
 use Rattle.std.proofs.lemmas.Str.{encodes-append}
 use lib.Utf8.{scalar, scalars, encode, encodes}
 use Rattle.gcx_base.specs.declared.limits.Limits.{Limits}
-use Rattle.gcx_model.specs.Tree.{Token}
+use Rattle.gcx_model.specs.Tree.{TreeToken}
 use Rattle.gcx_model.specs.declared.fault.DocFault.{DocFault}
 use Rattle.gcx_model.specs.declared.fault.DocFault.TheVariants.{TooLong}
 use Rattle.gcx_model.specs.Faults.{fault_of, Clean, IsCharFront, FaultWithin, by_character, by_sequence, by_cut, by_end, none_yet, none_whole, FaultIs, within_limit, before_limit, past_limit}
@@ -40,7 +40,7 @@ clean_is lim cs s (before_limit f h w o) = some_none f o
 clean_is lim cs s (past_limit h w o) = some_none (TooLong lim.bytes) o
 
 -- what is seen, in other words
-pub in_words : (lim : Limits) (b : List ℕ) (over : Bool) (ts : List Token) → (h : SeenIs lim b over ts) → SeenInWords lim b h.tags
+pub in_words : (lim : Limits) (b : List ℕ) (over : Bool) (ts : List TreeToken) → (h : SeenIs lim b over ts) → SeenInWords lim b h.tags
 in_words lim b over ts h =
     let i = h.seen in
     let l = h.longest in

@@ -2,7 +2,7 @@
 use Rattle.std.specs.Prelude.{◌≡◌, ℕ, ◌+◌, ◌≤◌, Bool, List, ◌++◌, length, Some}
 use Rattle.gcx_base.specs.declared.kind.Kind.TheVariants.{Element}
 use Rattle.gcx_base.specs.declared.limits.Limits.{Limits}
-use Rattle.gcx_model.specs.Tree.{Node, kind_of, Tree, Token}
+use Rattle.gcx_model.specs.Tree.{Node, kind_of, Tree, TreeToken}
 use Rattle.gcx_model.specs.Members.{In}
 use Rattle.gcx_model.specs.Growth.{level}
 use Rattle.gcx_model.specs.Seen.{SeenIs, seen_tree}
@@ -20,4 +20,4 @@ pub record IsTreeWithin (lim : Limits) (b : List ℕ) (P : Tree) : Type 0 where
 
 -- Behind each front of the tokens that are seen the tree is within limits.
 abbrev pub SeenWithin : Type 0
-SeenWithin = (lim : Limits) (b : List ℕ) (ended : Bool) (ts before after : List Token) → SeenIs lim b ended ts → ts ≡ before ++ after → IsTreeWithin lim b (seen_tree before)
+SeenWithin = (lim : Limits) (b : List ℕ) (ended : Bool) (ts before after : List TreeToken) → SeenIs lim b ended ts → ts ≡ before ++ after → IsTreeWithin lim b (seen_tree before)

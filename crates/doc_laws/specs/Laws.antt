@@ -6,7 +6,7 @@ use Rattle.gcx_base.specs.Characters.{is_char, is_part_char}
 use Rattle.gcx_base.specs.Name.{IsNameBytes}
 use Rattle.gcx_base.specs.declared.limits.Limits.{Limits}
 use Rattle.gcx_model.specs.Document.{Nodes, IsDocument}
-use Rattle.gcx_model.specs.Tree.{Token, Start, Chars, End, opening}
+use Rattle.gcx_model.specs.Tree.{TreeToken, Start, Chars, End, opening}
 use Rattle.gcx_model.specs.Growth.{Leads, may_all}
 use Rattle.gcx_model.specs.Attributes.{Attributes, attribute_names}
 use Rattle.gcx_model.specs.Grammar.{Content, SpellsDocument, Viable}
@@ -25,7 +25,7 @@ Among m [] = ⊥
 Among m (n ∷ ns) = (m ≡ n) ⊎ Among m ns
 
 -- the name of a start is a name
-abbrev pub IsNamed : Token → Type 0
+abbrev pub IsNamed : TreeToken → Type 0
 IsNamed (Start name) = IsNameBytes name
 IsNamed (Chars bytes) = Unit {0}
 IsNamed End = Unit {0}
@@ -68,11 +68,11 @@ FaultStays = (lim : Limits) (b more : List ℕ) (ended : Bool) (f : DocFault) �
 
 -- In all bytes tokens are seen.
 abbrev pub SomeSeen : Type 0
-SomeSeen = (lim : Limits) (b : List ℕ) (ended : Bool) → (ts : List Token) × SeenIs lim b ended ts
+SomeSeen = (lim : Limits) (b : List ℕ) (ended : Bool) → (ts : List TreeToken) × SeenIs lim b ended ts
 
 -- What is seen in bytes is one list of tokens.
 abbrev pub OneSeen : Type 0
-OneSeen = (lim : Limits) (b : List ℕ) (ended : Bool) (ts us : List Token) → SeenIs lim b ended ts → SeenIs lim b ended us → ts ≡ us
+OneSeen = (lim : Limits) (b : List ℕ) (ended : Bool) (ts us : List TreeToken) → SeenIs lim b ended ts → SeenIs lim b ended us → ts ≡ us
 
 -- The longest front that ends with a tag, closed by end tags, spells a document with the tokens that are seen.
 abbrev pub SeenIsClosed : Type 0
@@ -88,23 +88,23 @@ OnlyChars = (lim : Limits) (cs : List ℕ) (c : ℕ) → is_char c ≡ false →
 
 -- The tags seen are those of the longest front of the bytes that has no fault and ends with a tag, closed by end tags.
 abbrev pub SeenIsLongest : Type 0
-SeenIsLongest = (lim : Limits) (b : List ℕ) (ended : Bool) (ts : List Token) → (h : SeenIs lim b ended ts) → SeenInWords lim b h.tags
+SeenIsLongest = (lim : Limits) (b : List ℕ) (ended : Bool) (ts : List TreeToken) → (h : SeenIs lim b ended ts) → SeenInWords lim b h.tags
 
 -- The tokens that are seen may come one by one.
 abbrev pub SeenComes : Type 0
-SeenComes = (lim : Limits) (b : List ℕ) (ended : Bool) (ts : List Token) → SeenIs lim b ended ts → may_all ts opening ≡ true
+SeenComes = (lim : Limits) (b : List ℕ) (ended : Bool) (ts : List TreeToken) → SeenIs lim b ended ts → may_all ts opening ≡ true
 
 -- So their tree grew from the opening one.
 abbrev pub SeenGrew : Type 0
-SeenGrew = (lim : Limits) (b : List ℕ) (ended : Bool) (ts : List Token) → SeenIs lim b ended ts → Leads opening (seen_tree ts)
+SeenGrew = (lim : Limits) (b : List ℕ) (ended : Bool) (ts : List TreeToken) → SeenIs lim b ended ts → Leads opening (seen_tree ts)
 
 -- Each start that is seen has a name.
 abbrev pub SeenIsNamed : Type 0
-SeenIsNamed = (lim : Limits) (b : List ℕ) (ended : Bool) (ts : List Token) → SeenIs lim b ended ts → All IsNamed ts
+SeenIsNamed = (lim : Limits) (b : List ℕ) (ended : Bool) (ts : List TreeToken) → SeenIs lim b ended ts → All IsNamed ts
 
 -- More bytes give more tokens.
 abbrev pub SeenGoesOn : Type 0
-SeenGoesOn = (lim : Limits) (b more : List ℕ) (ended : Bool) (ts us : List Token) → SeenIs lim b false ts → SeenIs lim (b ++ more) ended us → (rest : List Token) × (us ≡ ts ++ rest)
+SeenGoesOn = (lim : Limits) (b more : List ℕ) (ended : Bool) (ts us : List TreeToken) → SeenIs lim b false ts → SeenIs lim (b ++ more) ended us → (rest : List TreeToken) × (us ≡ ts ++ rest)
 
 -- No fault comes in a whole document exactly where its names, runs and values are short and its elements aren't too deep.
 abbrev pub LimitsInWords : Type 0

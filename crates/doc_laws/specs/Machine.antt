@@ -2,7 +2,7 @@
 use Rattle.std.specs.Prelude.{ℕ, ◌+◌, ◌*◌, Bool, true, false, not, ◌&&◌, ◌==◌, nat_le, List, [], ◌∷◌, ◌++◌, Option, Some, None, replicate, if◌then◌else◌, bytes_eq}
 use lib.Utf8.{encode}
 use Rattle.gcx_base.specs.Characters.{is_char, is_white, is_start_char, is_part_char}
-use Rattle.gcx_model.specs.Tree.{Token, Start, End}
+use Rattle.gcx_model.specs.Tree.{TreeToken, Start, End}
 use Rattle.gcx_model.specs.References.{entity_name, less_than, greater_than, ampersand, apostrophe, quotation, is_decimal, is_hexadecimal, worth, begins_entity, greatest}
 use Rattle.gcx_model.specs.Attributes.{is_text_char, is_value_char, is_quote, is_fresh}
 use Rattle.gcx_model.specs.Markup.{one_more, cdata_word, doc_word, is_doc_char, is_literal_char}
@@ -10,15 +10,15 @@ use Rattle.gcx_model.specs.Grammar.{may_open}
 use Rattle.gcx_model.specs.Fronts.{is_inside, text_of}
 
 -- what is read of a reference: letters of a name; or '&#'; or the value of the digits so far
-pub data Referring : Type 0 where
-  Letters : (read : List ℕ) → Referring
-  Number : Referring
-  Decimal : (value : ℕ) → Referring
-  Hexadecimal : (value : ℕ) → Referring
+pub data ReferenceRead : Type 0 where
+  Letters : (read : List ℕ) → ReferenceRead
+  Number : ReferenceRead
+  Decimal : (value : ℕ) → ReferenceRead
+  Hexadecimal : (value : ℕ) → ReferenceRead
 
 -- a reference goes on, or is done and stands for a character, or no reference goes on so
 pub data Referred : Type 0 where
-  More : Referring → Referred
+  More : ReferenceRead → Referred
   Done : (c : ℕ) → Referred
   Bad : Referred
 
@@ -48,7 +48,7 @@ on_letters m c =
     else Bad
 
 -- a number that is a character's or can grow to be one
-abbrev pub counted : (ℕ → Referring) → ℕ → Referred
+abbrev pub counted : (ℕ → ReferenceRead) → ℕ → Referred
 counted mk v = if nat_le v greatest then More (mk v) else Bad
 
 abbrev pub done_number : ℕ → Referred
@@ -73,51 +73,51 @@ on_number c =
     else Bad
 
 -- a reference with a character more
-abbrev pub refer : Referring → ℕ → Referred
+abbrev pub refer : ReferenceRead → ℕ → Referred
 refer (Letters m) c = on_letters m c
 refer Number c = on_number c
 refer (Decimal v) c = on_decimal v c
 refer (Hexadecimal v) c = on_hexadecimal v c
 
 -- The place in the grammar; of a word that is known, what is still to come of it.
-pub data Mode : Type 0 where
-  Opening : Mode
-  Between : Mode
-  Less : Mode
-  StartName : Mode
-  StartSpace : Mode
-  AttributeName : Mode
-  AttributeSpace : Mode
-  Equals : Mode
-  InValue : (quote : ℕ) → Mode
-  InValueReference : (quote : ℕ) → Referring → Mode
-  ValueEnd : Mode
-  Slash : Mode
-  EndName : (left : List ℕ) → Mode
-  EndSpace : Mode
-  Question : Mode
-  Target : Mode
-  TargetMark : Mode
-  InInstruction : (marks : ℕ) → Mode
-  DocWord : (left : List ℕ) → Mode
-  DocSpace : Mode
-  Doc : Mode
-  DocLiteral : (quote : ℕ) → Mode
-  Bang : Mode
-  BangDash : Mode
-  Comment : Mode
-  CommentDash : Mode
-  CommentEnd : Mode
-  CDSectWord : (left : List ℕ) → Mode
-  InCDSect : (brackets : ℕ) → Mode
-  InReference : Referring → Mode
+pub data MachineMode : Type 0 where
+  Opening : MachineMode
+  Between : MachineMode
+  Less : MachineMode
+  StartName : MachineMode
+  StartSpace : MachineMode
+  AttributeName : MachineMode
+  AttributeSpace : MachineMode
+  Equals : MachineMode
+  InValue : (quote : ℕ) → MachineMode
+  InValueReference : (quote : ℕ) → ReferenceRead → MachineMode
+  ValueEnd : MachineMode
+  Slash : MachineMode
+  EndName : (left : List ℕ) → MachineMode
+  EndSpace : MachineMode
+  Question : MachineMode
+  Target : MachineMode
+  TargetMark : MachineMode
+  InInstruction : (marks : ℕ) → MachineMode
+  DocWord : (left : List ℕ) → MachineMode
+  DocSpace : MachineMode
+  Doc : MachineMode
+  DocLiteral : (quote : ℕ) → MachineMode
+  Bang : MachineMode
+  BangDash : MachineMode
+  Comment : MachineMode
+  CommentDash : MachineMode
+  CommentEnd : MachineMode
+  CDSectWord : (left : List ℕ) → MachineMode
+  InCDSect : (brackets : ℕ) → MachineMode
+  InReference : ReferenceRead → MachineMode
 
 -- the place in the grammar, the names of the open elements from the innermost on, whether there was a root, and whether
 -- there was a root or a document type declaration; the run that is read; the name of the tag that is read, the names of its
 -- attributes from the last one on, and the name of the attribute that is read; the tokens of that tag and of the run before
 -- it, and the tokens of the whole tags. Names and runs are bytes.
 pub record State : Type 0 where
-  pub mode : Mode
+  pub mode : MachineMode
   pub names : List (List ℕ)
   pub rooted : Bool
   pub typed : Bool
@@ -125,8 +125,8 @@ pub record State : Type 0 where
   pub name : List ℕ
   pub attrs : List (List ℕ)
   pub attr : List ℕ
-  pub pending : List Token
-  pub tokens : List Token
+  pub pending : List TreeToken
+  pub tokens : List TreeToken
 
 abbrev pub start : State
 start = record { mode = Opening; names = []; rooted = false; typed = false; run = []; name = []; attrs = []; attr = []; pending = []; tokens = [] }
@@ -152,11 +152,11 @@ valued s = record s { mode = ValueEnd; run = []; attrs = s.attr ∷ s.attrs; att
 abbrev pub closed : State → List (List ℕ) → State
 closed s rest = record s { mode = Between; names = rest; run = []; tokens = s.tokens ++ (text_of s.run ++ (End ∷ [])) }
 
-abbrev pub to_mode : State → Mode → Option State
+abbrev pub to_mode : State → MachineMode → Option State
 to_mode s m = Some (record s { mode = m })
 
 -- the run goes on
-abbrev pub run_on : State → Mode → List ℕ → Option State
+abbrev pub run_on : State → MachineMode → List ℕ → Option State
 run_on s m bytes = Some (record s { mode = m; run = s.run ++ bytes })
 
 abbrev pub on_between : State → ℕ → Option State
@@ -221,7 +221,7 @@ on_value s q c =
     else None
 
 -- what a reference leads to: in it, and behind it
-abbrev pub on_referred : State → (Referring → Mode) → Mode → Referred → Option State
+abbrev pub on_referred : State → (ReferenceRead → MachineMode) → MachineMode → Referred → Option State
 on_referred s mk behind (More r) = to_mode s (mk r)
 on_referred s mk behind (Done c) = run_on s behind (encode c)
 on_referred s mk behind Bad = None
@@ -250,7 +250,7 @@ on_end s [] c = on_ended s c s.names
 on_end s (x ∷ left) c = to_end_name s (behind (encode c) (x ∷ left))
 
 -- the next character of a word, or what comes behind it
-abbrev pub on_word : State → ℕ → (List ℕ → Mode) → List ℕ → Option State → Option State
+abbrev pub on_word : State → ℕ → (List ℕ → MachineMode) → List ℕ → Option State → Option State
 on_word s c mk (d ∷ left) after = if c == d then to_mode s (mk left) else None
 on_word s c mk [] after = after
 
@@ -326,7 +326,7 @@ on_cdsect s n c =
     else if is_char c then Some (record s { mode = InCDSect 0; run = s.run ++ (replicate n 93 ++ encode c) })
     else None
 
-abbrev pub on_mode : State → ℕ → Mode → Option State
+abbrev pub on_mode : State → ℕ → MachineMode → Option State
 on_mode s c Opening = on_opening s c
 on_mode s c Between = on_between s c
 on_mode s c Less = on_less s c
@@ -371,7 +371,7 @@ steps s [] = Some s
 steps s (c ∷ cs) = go_on (step s c) (λ t. steps t cs)
 
 -- the whole document is read
-abbrev pub is_between : Mode → Bool
+abbrev pub is_between : MachineMode → Bool
 is_between Between = true
 is_between other = false
 

@@ -2,27 +2,27 @@
 use Rattle.std.specs.Prelude.{ℕ, ◌≡◌, Bool, true, false, not, ◌&&◌, ◌||◌, cond, List, [], ◌∷◌, ◌++◌}
 use lib.Utf8.{encodes}
 use Rattle.gcx_model.specs.Document.{tokens}
-use Rattle.gcx_model.specs.Tree.{Token, Start}
+use Rattle.gcx_model.specs.Tree.{TreeToken, Start}
 use Rattle.gcx_model.specs.References.{BegunReference, letters, number, decimals, hexadecimals, digit, value_in}
 use Rattle.gcx_model.specs.Attributes.{Attributes, attribute_names}
 use Rattle.gcx_model.specs.Markup.{marks, brackets}
 use Rattle.gcx_model.specs.Grammar.{Content, nothing, has_element, has_type, text_run, attribute_nodes}
-use Rattle.gcx_model.specs.Fronts.{Frames, Part, no_part, spaced, part_name, name_spaced, equals, value, value_amp, Piece, no_piece, less, started, tag, slashed, ending, ended, question, target, target_mark, in_instruction, doc_wording, doc_gap, doc, doc_literal, bang, bang_dash, in_comment, comment_dash, comment_end, cdsect_word, in_cdsect, amp, front_spelling, IsFront, names, inside, piece_run, text_of, seen_tokens}
-use Rattle.doc_laws.specs.Machine.{Referring, Letters, Number, Decimal, Hexadecimal, Mode, Opening, Between, Less, StartName, StartSpace, AttributeName, AttributeSpace, Equals, InValue, InValueReference, ValueEnd, Slash, EndName, EndSpace, Question, Target, TargetMark, InInstruction, DocWord, DocSpace, Doc, DocLiteral, Bang, BangDash, Comment, CommentDash, CommentEnd, CDSectWord, InCDSect, InReference, State}
+use Rattle.gcx_model.specs.Fronts.{Frames, Part, no_part, spaced, part_name, name_spaced, equals, value_part, value_amp, Piece, no_piece, less, started, tag, slashed, ending, ended, question, target, target_mark, in_instruction, doc_wording, doc_gap, doc, doc_literal, bang, bang_dash, in_comment, comment_dash, comment_end, cdsect_word, in_cdsect, amp, front_spelling, IsFront, names, inside, piece_run, text_of, seen_tokens}
+use Rattle.doc_laws.specs.Machine.{ReferenceRead, Letters, Number, Decimal, Hexadecimal, MachineMode, Opening, Between, Less, StartName, StartSpace, AttributeName, AttributeSpace, Equals, InValue, InValueReference, ValueEnd, Slash, EndName, EndSpace, Question, Target, TargetMark, InInstruction, DocWord, DocSpace, Doc, DocLiteral, Bang, BangDash, Comment, CommentDash, CommentEnd, CDSectWord, InCDSect, InReference, State}
 
-abbrev pub referring : BegunReference → Referring
+abbrev pub referring : BegunReference → ReferenceRead
 referring (letters m) = Letters m
 referring number = Number
 referring (decimals ds c) = Decimal (value_in 10 (digit ds c))
 referring (hexadecimals ds) = Hexadecimal (value_in 16 ds)
 
-abbrev pub part_mode : Part → Mode
+abbrev pub part_mode : Part → MachineMode
 part_mode no_part = ValueEnd
 part_mode (spaced g) = StartSpace
 part_mode (part_name g m) = AttributeName
 part_mode (name_spaced g m sp) = AttributeSpace
 part_mode (equals g m sp sp2) = Equals
-part_mode (value h v) = InValue h.quote
+part_mode (value_part h v) = InValue h.quote
 part_mode (value_amp h v r) = InValueReference h.quote (referring r)
 
 -- nothing is read yet
@@ -33,10 +33,10 @@ is_nothing other = false
 abbrev pub is_opening : Frames → Content → Bool
 is_opening fs x = is_nothing x && not (inside fs)
 
-abbrev pub rest_mode : Frames → Content → Mode
+abbrev pub rest_mode : Frames → Content → MachineMode
 rest_mode fs x = cond (is_opening fs x) Opening Between
 
-abbrev pub piece_mode : Frames → Content → Piece → Mode
+abbrev pub piece_mode : Frames → Content → Piece → MachineMode
 piece_mode fs x no_piece = rest_mode fs x
 piece_mode fs x less = Less
 piece_mode fs x (started n) = StartName
@@ -84,7 +84,7 @@ part_attr (spaced g) = []
 part_attr (part_name g m) = encodes m
 part_attr (name_spaced g m sp) = encodes m
 part_attr (equals g m sp sp2) = encodes m
-part_attr (value h v) = encodes h.name
+part_attr (value_part h v) = encodes h.name
 part_attr (value_amp h v r) = encodes h.name
 
 abbrev pub piece_attr : Piece → List ℕ
@@ -92,10 +92,10 @@ piece_attr (tag n ats p) = part_attr p
 piece_attr other = []
 
 -- the tokens of a tag that isn't whole, and of the run before it
-abbrev pub tag_tokens : Content → List ℕ → Attributes → List Token
+abbrev pub tag_tokens : Content → List ℕ → Attributes → List TreeToken
 tag_tokens x n ats = text_of (text_run x) ++ (Start (encodes n) ∷ tokens (attribute_nodes ats))
 
-abbrev pub piece_pending : Content → Piece → List Token
+abbrev pub piece_pending : Content → Piece → List TreeToken
 piece_pending x (tag n ats p) = tag_tokens x n ats
 piece_pending x (slashed n ats sp) = tag_tokens x n ats
 piece_pending x other = []

@@ -15,8 +15,8 @@ use Rattle.gcx_model.specs.Attributes.{is_text_char, is_value_char, is_quote, is
 use Rattle.gcx_model.specs.Markup.{is_doc_char, is_literal_char}
 use Rattle.gcx_model.specs.Grammar.{may_open}
 use Rattle.gcx_model.specs.Fronts.{is_inside}
-use Rattle.gcx_model.specs.Faults.{Refusal, AtDepth, AtName, AtText}
-use Rattle.doc_laws.specs.Machine.{Referred, More, Done, Bad, Referring, Mode, Opening, Between, Less, StartName, StartSpace, AttributeName, AttributeSpace, Equals, InValue, InValueReference, ValueEnd, Slash, EndName, EndSpace, Question, Target, TargetMark, InInstruction, DocWord, DocSpace, Doc, DocLiteral, Bang, BangDash, Comment, CommentDash, CommentEnd, CDSectWord, InCDSect, InReference, State, begun, to_mode, run_on, to_end_name, behind, refer, on_between, on_tag, on_named, on_referred, on_ended, on_end, on_word, on_mode, step}
+use Rattle.gcx_model.specs.Faults.{DocumentRefusal, AtDepth, AtName, AtText}
+use Rattle.doc_laws.specs.Machine.{Referred, More, Done, Bad, ReferenceRead, MachineMode, Opening, Between, Less, StartName, StartSpace, AttributeName, AttributeSpace, Equals, InValue, InValueReference, ValueEnd, Slash, EndName, EndSpace, Question, Target, TargetMark, InInstruction, DocWord, DocSpace, Doc, DocLiteral, Bang, BangDash, Comment, CommentDash, CommentEnd, CDSectWord, InCDSect, InReference, State, begun, to_mode, run_on, to_end_name, behind, refer, on_between, on_tag, on_named, on_referred, on_ended, on_end, on_word, on_mode, step}
 use Rattle.doc_laws.specs.Judging.{naming_by, is_deep, deep_place, judged_by, judged, judged_steps, on_ok}
 use Rattle.doc_machine.specs.Sound.{IsSoundIn, IsSound}
 use Rattle.doc_machine.specs.Steps.{Taken}
@@ -92,19 +92,19 @@ end_next s c (x ∷ left) h = by (behind (encode c) (x ∷ left))
     by None = tt
     by (Some l) = (h, inl refl)
 
-word_next : (s : State) (c : ℕ) (mk : List ℕ → Mode) (left : List ℕ) (after : Option State) → ((l : List ℕ) → Next s c (to_mode s (mk l))) → Next s c after → Next s c (on_word s c mk left after)
+word_next : (s : State) (c : ℕ) (mk : List ℕ → MachineMode) (left : List ℕ) (after : Option State) → ((l : List ℕ) → Next s c (to_mode s (mk l))) → Next s c after → Next s c (on_word s c mk left after)
 word_next s c mk [] after h k = k
 word_next s c mk (d ∷ left) after h k = either s c (eqb c d) _ _ (h left) tt
 
-referred_next : (s : State) (c : ℕ) (mk : Referring → Mode) (behind : Mode) (r : Referred) → ((r : Referring) → Next s c (to_mode s (mk r))) → ((b : List ℕ) → Next s c (run_on s behind b)) → Next s c (on_referred s mk behind r)
+referred_next : (s : State) (c : ℕ) (mk : ReferenceRead → MachineMode) (behind : MachineMode) (r : Referred) → ((r : ReferenceRead) → Next s c (to_mode s (mk r))) → ((b : List ℕ) → Next s c (run_on s behind b)) → Next s c (on_referred s mk behind r)
 referred_next s c mk behind (More r) h k = h r
 referred_next s c mk behind (Done d) h k = k (encode d)
 referred_next s c mk behind Bad h k = tt
 
-still : (s t : State) (m : Mode) → s.mode ≡ m → t.mode ≡ s.mode → IsSoundIn m t → IsSound t
+still : (s t : State) (m : MachineMode) → s.mode ≡ m → t.mode ≡ s.mode → IsSoundIn m t → IsSound t
 still s t m e same h = subst (λ n. IsSoundIn n t) (sym (same ∙ e)) h
 
-mode_next : (m : Mode) (s : State) (c : ℕ) → s.mode ≡ m → IsSoundIn m s → Next s c (on_mode s c m)
+mode_next : (m : MachineMode) (s : State) (c : ℕ) → s.mode ≡ m → IsSoundIn m s → Next s c (on_mode s c m)
 mode_next Opening s c e h = either s c (eqb c 65279) _ _ (h, inl refl) (between_next s c h)
 mode_next Between s c e h = between_next s c h
 mode_next Less s c e h =
@@ -162,10 +162,10 @@ step_good s t c h e = subst (Next s c) e (step_next s c h)
 
 pub limited_is : (lim : Limits) (place : ℕ) (s t : State) (c : ℕ) → judged_by lim place s c (Some t) ≡ limited lim place (deep_at lim place s c) t
 limited_is lim place s t c =
-    let last : Result State Refusal = cond (nat_lt lim.name (length (naming_by t.mode t))) (Err (AtName place)) (Ok t) in
-    ap (λ (r : Result State Refusal). cond (nat_lt lim.text (length t.run)) (Err (AtText place)) r) (by (is_deep lim s c) last)
+    let last : Result State DocumentRefusal = cond (nat_lt lim.name (length (naming_by t.mode t))) (Err (AtName place)) (Ok t) in
+    ap (λ (r : Result State DocumentRefusal). cond (nat_lt lim.text (length t.run)) (Err (AtText place)) r) (by (is_deep lim s c) last)
   where
-    by : (b : Bool) (r : Result State Refusal) → cond b (Err (AtDepth (deep_place place s.mode))) r ≡ in_depth (cond b (Some (deep_place place s.mode)) None) r
+    by : (b : Bool) (r : Result State DocumentRefusal) → cond b (Err (AtDepth (deep_place place s.mode))) r ≡ in_depth (cond b (Some (deep_place place s.mode)) None) r
     by true r = refl
     by false r = refl
 
@@ -179,11 +179,11 @@ end_passes lim place s t c is r m =
     ∙ cond-false (is_deep lim s c) _ _ (ap (λ d. is_deep lim s d) is)
     ∙ cond-false (nat_lt lim.name (length (naming_by t.mode t))) _ _ (ap (λ n. nat_lt lim.name (length (naming_by n t))) m ∙ not_below lim.name)
 
-ok_not_err : (t : State) (f : Refusal) → Ok t ≡ Err f → ⊥
+ok_not_err : (t : State) (f : DocumentRefusal) → Ok t ≡ Err f → ⊥
 ok_not_err t f e = cc
 
 -- where a limit is passed the tokens of the whole tags are the same
-pub refused_keeps : (lim : Limits) (place : ℕ) (s t : State) (c : ℕ) (f : Refusal) → IsSound s → step s c ≡ Some t → judged_by lim place s c (Some t) ≡ Err f → t.tokens ≡ s.tokens
+pub refused_keeps : (lim : Limits) (place : ℕ) (s t : State) (c : ℕ) (f : DocumentRefusal) → IsSound s → step s c ≡ Some t → judged_by lim place s c (Some t) ≡ Err f → t.tokens ≡ s.tokens
 refused_keeps lim place s t c f h e g =
     elim ((step_good s t c h e).1) [
       | inl same ↦ same
@@ -197,16 +197,16 @@ taken_true false old o new h e = absurd (false≢true e)
 pub judged_is : (lim : Limits) (place : ℕ) (s t : State) (c : ℕ) (deep : Option ℕ) → step s c ≡ Some t → deep ≡ deep_at lim place s c → judged lim place s c ≡ limited lim place deep t
 judged_is lim place s t c deep e d = ap (judged_by lim place s c) e ∙ limited_is lim place s t c ∙ ap (λ x. limited lim place x t) (sym d)
 
-pub judged_keeps : (lim : Limits) (place : ℕ) (s t : State) (c : ℕ) (f : Refusal) → IsSound s → step s c ≡ Some t → judged lim place s c ≡ Err f → t.tokens ≡ s.tokens
+pub judged_keeps : (lim : Limits) (place : ℕ) (s t : State) (c : ℕ) (f : DocumentRefusal) → IsSound s → step s c ≡ Some t → judged lim place s c ≡ Err f → t.tokens ≡ s.tokens
 judged_keeps lim place s t c f h e g = refused_keeps lim place s t c f h e (sym (ap (judged_by lim place s c) e) ∙ g)
 
 judged_step : (lim : Limits) (place : ℕ) (s t : State) (c : ℕ) → judged lim place s c ≡ Ok t → step s c ≡ Some t
 judged_step lim place s t c e = by (step s c) e
   where
-    err_not : (f : Refusal) → Err f ≡ Ok t → ⊥
+    err_not : (f : DocumentRefusal) → Err f ≡ Ok t → ⊥
     err_not f e = cc
 
-    within : (a b d : Bool) (f g h : Refusal) (u : State) → cond a (Err f) (cond b (Err g) (cond d (Err h) (Ok u))) ≡ Ok t → u ≡ t
+    within : (a b d : Bool) (f g h : DocumentRefusal) (u : State) → cond a (Err f) (cond b (Err g) (cond d (Err h) (Ok u))) ≡ Ok t → u ≡ t
     within true b d f g h u e = absurd (err_not f e)
     within false true d f g h u e = absurd (err_not g e)
     within false false true f g h u e = absurd (err_not h e)
@@ -219,13 +219,13 @@ judged_step lim place s t c e = by (step s c) e
 pub judged_sound : (lim : Limits) (place : ℕ) (s t : State) (c : ℕ) → IsSound s → judged lim place s c ≡ Ok t → IsSound t
 judged_sound lim place s t c h e = (step_good s t c h (judged_step lim place s t c e)).0
 
-pub err_not : (f : Refusal) (t : State) → Err f ≡ Ok t → ⊥
+pub err_not : (f : DocumentRefusal) (t : State) → Err f ≡ Ok t → ⊥
 err_not f t e = cc
 
 pub steps_sound : (lim : Limits) (place : ℕ) (s t : State) (cs : List ℕ) → IsSound s → judged_steps lim place s cs ≡ Ok t → IsSound t
 steps_sound lim place s t [] h e = let same : s ≡ t = cc in subst IsSound same h
 steps_sound lim place s t (c ∷ cs) h e =
-    elim (judged lim place s c) as (λ (r : Result State Refusal). judged lim place s c ≡ r → on_ok r (λ u. judged_steps lim (place + len_utf8 c) u cs) ≡ Ok t → IsSound t) [
+    elim (judged lim place s c) as (λ (r : Result State DocumentRefusal). judged lim place s c ≡ r → on_ok r (λ u. judged_steps lim (place + len_utf8 c) u cs) ≡ Ok t → IsSound t) [
       | Ok u ↦ λ f g. steps_sound lim (place + len_utf8 c) u t cs (judged_sound lim place s u c h f) g
       | Err f ↦ λ k g. absurd (err_not f t g)
     ] refl e

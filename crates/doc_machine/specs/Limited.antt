@@ -2,7 +2,7 @@
 -- The limits of a step (this project's).
 use Rattle.std.specs.Prelude.{ℕ, ◌≡◌, length, nat_lt, Option, Some, None, Result, Ok, Err, if◌then◌else◌}
 use Rattle.gcx_base.specs.declared.limits.Limits.{Limits}
-use Rattle.gcx_model.specs.Faults.{Refusal as Fault, AtDepth, AtName, AtText}
+use Rattle.gcx_model.specs.Faults.{DocumentRefusal as Fault, AtDepth, AtName, AtText}
 use Rattle.doc_laws.specs.Machine.{State}
 use Rattle.doc_laws.specs.Judging.{naming_by, is_deep, deep_place, judged}
 use Rattle.doc_machine.specs.declared.stop.Refusal.{Refusal}

@@ -33,7 +33,7 @@ letters_of letters.Qu = 113 ∷ (117 ∷ [])
 letters_of letters.Quo = 113 ∷ (117 ∷ (111 ∷ []))
 letters_of letters.Quot = 113 ∷ (117 ∷ (111 ∷ (116 ∷ [])))
 
-abbrev pub referring_of : Referring → laws.Referring
+abbrev pub referring_of : Referring → laws.ReferenceRead
 referring_of (referring.Letters l) = laws.Letters (letters_of l)
 referring_of referring.Number = laws.Number
 referring_of (referring.Decimal v) = laws.Decimal v
@@ -49,7 +49,7 @@ quote_of quotes.Single = 39
 quote_of quotes.Double = 34
 
 -- the place in the grammar, given the names of the open elements
-abbrev pub mode_of : List (List ℕ) → Mode → laws.Mode
+abbrev pub mode_of : List (List ℕ) → Mode → laws.MachineMode
 mode_of ns mode.Opening = laws.Opening
 mode_of ns mode.Between = laws.Between
 mode_of ns mode.Less = laws.Less

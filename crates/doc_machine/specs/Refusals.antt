@@ -1,6 +1,6 @@
 -- These definitions follow the code; no public clause speaks of them.
 -- Why reading stops (this project's).
-use Rattle.gcx_model.specs.Faults.{Refusal as Fault, AtSyntax, AtDepth, AtName, AtText, fault_of}
+use Rattle.gcx_model.specs.Faults.{DocumentRefusal as Fault, AtSyntax, AtDepth, AtName, AtText, fault_of}
 use Rattle.gcx_model.specs.declared.fault.DocFault.{DocFault}
 use Rattle.gcx_model.specs.declared.fault.DocFault.TheVariants.{Memory as out_of_memory}
 use Rattle.doc_machine.specs.declared.stop.Refusal.{Refusal}

@@ -2,11 +2,11 @@
 -- What holds of each state that the machine is in (this project's).
 use Rattle.std.specs.Prelude.{◌≡◌, []}
 use Rattle.gcx_base.specs.Name.{IsNameBytes}
-use Rattle.doc_laws.specs.Machine.{State, Mode, StartName, StartSpace, AttributeName, AttributeSpace, Equals, InValue, InValueReference, ValueEnd, Slash}
+use Rattle.doc_laws.specs.Machine.{State, MachineMode, StartName, StartSpace, AttributeName, AttributeSpace, Equals, InValue, InValueReference, ValueEnd, Slash}
 
 -- The name of a tag or of an attribute that was begun is one, no run is read in a tag outside its values, and the tokens of a
 -- tag wait in that tag alone.
-abbrev pub IsSoundIn : Mode → State → Type 0
+abbrev pub IsSoundIn : MachineMode → State → Type 0
 IsSoundIn StartName s = IsNameBytes s.name × (s.pending ≡ [])
 IsSoundIn StartSpace s = s.run ≡ []
 IsSoundIn AttributeName s = IsNameBytes s.attr

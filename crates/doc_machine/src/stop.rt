@@ -1,6 +1,6 @@
 //! Why reading stops.
 ghost use Rattle.std.specs.Prelude.{◌≡◌};
-ghost use Rattle.doc_machine.specs.declared.stop.Stop.TheVariants.{Memory as out_of_memory};
+ghost use Rattle.doc_machine.specs.declared.stop.Stop.TheVariants.{Memory as stop_memory};
 ghost use Rattle.doc_machine.specs.Refusals.{stop_fault};
 
 use gcx_base::Memory;
@@ -30,7 +30,7 @@ pub enum Stop {
 }
 
 impl From<Memory> for Stop {
-    ghost from_gives = { λ _ e. e ≡ out_of_memory };
+    ghost from_gives = { λ _ e. e ≡ stop_memory };
 
     fn from(_: Memory) -> Stop {
         Stop::Memory

@@ -13,7 +13,7 @@ use lib.Utf8.{encode, encodes}
 use Rattle.gcx_base.specs.Characters.{is_start_char, is_part_char}
 use Rattle.gcx_base.specs.Name.{is_name, IsNameBytes}
 use Rattle.doc_chars.proofs.Fronts.{front_of}
-use Rattle.doc_parts.specs.Reading.{IsFirst}
+use Rattle.doc_parts.specs.Reading.{IsFirstChar}
 use Rattle.doc_parts.specs.Spans.{is_short_part, IsPartFront, IsNameFront}
 use Rattle.doc_parts.proofs.Names.{short_part}
 use Rattle.doc_parts.proofs.Spans.{ascii_all}
@@ -66,7 +66,7 @@ pub name_none : (text : List ℕ) → IsUtf8 text → IsNameFront 0 text
 name_none text u = record { boundary = IsCharBoundary-start text u; name = λ p. absurd (omega arith) }
 
 -- a NameStartChar begins the text, and so many bytes are NameChars
-pub name_is : (text rest : List ℕ) (c n : ℕ) → IsUtf8 text → IsFirst c rest text → is_start_char c ≡ true → IsPartFront n text → IsNameFront n text
+pub name_is : (text rest : List ℕ) (c n : ℕ) → IsUtf8 text → IsFirstChar c rest text → is_start_char c ≡ true → IsPartFront n text → IsNameFront n text
 name_is text rest c n u f h p = record {
   boundary = p.boundary;
   name = λ some. by some (chars (take n text)) (front_bytes text n u p.boundary) (sym (chars_cut text n u p.boundary) ∙ f.first) p.inside;

@@ -8,10 +8,10 @@ use Rattle.gcx_model.specs.Faults.{size}
 use Rattle.doc_laws.specs.Machine.{State}
 use Rattle.doc_laws.specs.Judging.{judged_steps, on_ok}
 use Rattle.doc_laws.proofs.Unique.{judged_append}
-use Rattle.doc_parts.specs.Reading.{IsFirst}
+use Rattle.doc_parts.specs.Reading.{IsFirstChar}
 
 -- the first character of a text
-pub first_is : (c : ℕ) (rest text : List ℕ) → IsUtf8 text → text ≡ encode c ++ rest → IsFirst c rest text
+pub first_is : (c : ℕ) (rest text : List ℕ) → IsUtf8 text → text ≡ encode c ++ rest → IsFirstChar c rest text
 first_is c rest text u e = record {
   first = chars_past_char text rest c u e;
   size_is = ap length e ∙ length-append (encode c) rest ∙ ap (λ n. n + length rest) (length-encode c);

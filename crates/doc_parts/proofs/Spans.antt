@@ -18,12 +18,12 @@ use Rattle.gcx_model.specs.Fronts.{is_inside}
 use Rattle.doc_chars.specs.Stream.{AreChars}
 use Rattle.doc_chars.proofs.Streams.{are_text as text_of}
 use Rattle.doc_laws.specs.Machine as laws
-use Rattle.doc_laws.specs.Machine.{Mode, State, on_mode, step}
+use Rattle.doc_laws.specs.Machine.{MachineMode, State, on_mode, step}
 use Rattle.doc_laws.specs.Judging.{naming_by, begins_deep, is_deep, judged_by, judged, judged_steps, on_ok}
 use Rattle.doc_machine.specs.declared.mode.Quote.TheVariants.{Single, Double}
 use Rattle.doc_machine.specs.Machine.{quote_of}
 use Rattle.doc_parts.specs.declared.span.Span.{Span}
-use Rattle.doc_parts.specs.declared.span.Span.TheVariants.{Text, Value, TagName, AttributeName, Comment, Instruction, CDSect}
+use Rattle.doc_parts.specs.declared.span.Span.TheVariants as spans
 use Rattle.doc_parts.specs.Spans.{is_name_span, stands, is_stop, IsStop, IsFrontOf, IsSpanFront, is_ascii_byte, IsSameFront, spread, HasRoom, Allows}
 use Rattle.doc_parts.specs.Reading.{Moves}
 use Rattle.doc_parts.proofs.Texts.{front_all, front_bytes, front_size, moves_text, ascii_boundary}
@@ -49,7 +49,7 @@ pub one_judged : (lim : Limits) (place : ℕ) (s t : State) (c : ℕ) → One li
 one_judged lim place s t c o = quiet lim place s t c o.steps o.run o.deep o.name
 
 -- at a mode that is known
-pub at_mode : (P : State → Type 0) (s : State) (m : Mode) → s.mode ≡ m → P (record s { mode = m }) → P s
+pub at_mode : (P : State → Type 0) (s : State) (m : MachineMode) → s.mode ≡ m → P (record s { mode = m }) → P s
 at_mode P s m e h = subst P (ap (λ k. record s { mode = k }) (sym e)) h
 
 one_text : (lim : Limits) (s : State) (most c : ℕ) → len_utf8 c ≤ most → length s.run ≤ lim.text → is_inside s.names ≡ true → most ≤ lim.text - length s.run → is_text_char c ≡ true → One lim (record s { mode = laws.Between }) (record s { mode = laws.Between; run = s.run ++ encode c }) c
@@ -115,40 +115,40 @@ one_cdsect lim s most c p run room h =
     }
 
 one_char : (lim : Limits) (s : State) (span : Span) (most c : ℕ) → len_utf8 c ≤ most → Allows lim most span s → stands span c ≡ true → One lim s (spread span s (encode c)) c
-one_char lim s Text most c p a h = at_mode (λ s. One lim s (spread Text s (encode c)) c) s laws.Between a.room.0 (one_text lim s most c p a.run a.room.1 a.room.2 h)
-one_char lim s (Value q) most c p a h = at_mode (λ s. One lim s (spread (Value q) s (encode c)) c) s (laws.InValue (quote_of q)) a.room.0 (one_value lim s (quote_of q) most c p a.run a.room.1 h)
-one_char lim s TagName most c p a h = at_mode (λ s. One lim s (spread TagName s (encode c)) c) s laws.StartName a.room.0 (one_name lim s most c p a.run a.room.1 h)
-one_char lim s AttributeName most c p a h = at_mode (λ s. One lim s (spread AttributeName s (encode c)) c) s laws.AttributeName a.room.0 (one_attribute lim s most c p a.run a.room.1 h)
-one_char lim s Comment most c p a h = at_mode (λ s. One lim s (spread Comment s (encode c)) c) s laws.Comment a.room (one_comment lim s c a.run h)
-one_char lim s Instruction most c p a h = at_mode (λ s. One lim s (spread Instruction s (encode c)) c) s (laws.InInstruction 0) a.room (one_instruction lim s c a.run h)
-one_char lim s CDSect most c p a h = at_mode (λ s. One lim s (spread CDSect s (encode c)) c) s (laws.InCDSect 0) a.room.0 (one_cdsect lim s most c p a.run a.room.1 h)
+one_char lim s spans.Text most c p a h = at_mode (λ s. One lim s (spread spans.Text s (encode c)) c) s laws.Between a.room.0 (one_text lim s most c p a.run a.room.1 a.room.2 h)
+one_char lim s (spans.Value q) most c p a h = at_mode (λ s. One lim s (spread (spans.Value q) s (encode c)) c) s (laws.InValue (quote_of q)) a.room.0 (one_value lim s (quote_of q) most c p a.run a.room.1 h)
+one_char lim s spans.TagName most c p a h = at_mode (λ s. One lim s (spread spans.TagName s (encode c)) c) s laws.StartName a.room.0 (one_name lim s most c p a.run a.room.1 h)
+one_char lim s spans.AttributeName most c p a h = at_mode (λ s. One lim s (spread spans.AttributeName s (encode c)) c) s laws.AttributeName a.room.0 (one_attribute lim s most c p a.run a.room.1 h)
+one_char lim s spans.Comment most c p a h = at_mode (λ s. One lim s (spread spans.Comment s (encode c)) c) s laws.Comment a.room (one_comment lim s c a.run h)
+one_char lim s spans.Instruction most c p a h = at_mode (λ s. One lim s (spread spans.Instruction s (encode c)) c) s (laws.InInstruction 0) a.room (one_instruction lim s c a.run h)
+one_char lim s spans.CDSect most c p a h = at_mode (λ s. One lim s (spread spans.CDSect s (encode c)) c) s (laws.InCDSect 0) a.room.0 (one_cdsect lim s most c p a.run a.room.1 h)
 
 spread_none : (span : Span) (s : State) → spread span s [] ≡ s
-spread_none Text s = ap (λ r. record s { run = r }) (append-nil s.run)
-spread_none (Value q) s = ap (λ r. record s { run = r }) (append-nil s.run)
-spread_none TagName s = ap (λ r. record s { name = r }) (append-nil s.name)
-spread_none AttributeName s = ap (λ r. record s { attr = r }) (append-nil s.attr)
-spread_none Comment s = refl
-spread_none Instruction s = refl
-spread_none CDSect s = ap (λ r. record s { run = r }) (append-nil s.run)
+spread_none spans.Text s = ap (λ r. record s { run = r }) (append-nil s.run)
+spread_none (spans.Value q) s = ap (λ r. record s { run = r }) (append-nil s.run)
+spread_none spans.TagName s = ap (λ r. record s { name = r }) (append-nil s.name)
+spread_none spans.AttributeName s = ap (λ r. record s { attr = r }) (append-nil s.attr)
+spread_none spans.Comment s = refl
+spread_none spans.Instruction s = refl
+spread_none spans.CDSect s = ap (λ r. record s { run = r }) (append-nil s.run)
 
 spread_more : (span : Span) (s : State) (xs ys : List ℕ) → spread span (spread span s xs) ys ≡ spread span s (xs ++ ys)
-spread_more Text s xs ys = ap (λ r. record s { run = r }) (append_assoc s.run xs ys)
-spread_more (Value q) s xs ys = ap (λ r. record s { run = r }) (append_assoc s.run xs ys)
-spread_more TagName s xs ys = ap (λ r. record s { name = r }) (append_assoc s.name xs ys)
-spread_more AttributeName s xs ys = ap (λ r. record s { attr = r }) (append_assoc s.attr xs ys)
-spread_more Comment s xs ys = refl
-spread_more Instruction s xs ys = refl
-spread_more CDSect s xs ys = ap (λ r. record s { run = r }) (append_assoc s.run xs ys)
+spread_more spans.Text s xs ys = ap (λ r. record s { run = r }) (append_assoc s.run xs ys)
+spread_more (spans.Value q) s xs ys = ap (λ r. record s { run = r }) (append_assoc s.run xs ys)
+spread_more spans.TagName s xs ys = ap (λ r. record s { name = r }) (append_assoc s.name xs ys)
+spread_more spans.AttributeName s xs ys = ap (λ r. record s { attr = r }) (append_assoc s.attr xs ys)
+spread_more spans.Comment s xs ys = refl
+spread_more spans.Instruction s xs ys = refl
+spread_more spans.CDSect s xs ys = ap (λ r. record s { run = r }) (append_assoc s.run xs ys)
 
 room_next : (lim : Limits) (span : Span) (s : State) (most c : ℕ) → HasRoom lim most span s → HasRoom lim (most - len_utf8 c) span (spread span s (encode c))
-room_next lim Text s most c h = let room = h.2 in (h.0, h.1, omega (arith, length-append s.run (encode c), length-encode c))
-room_next lim (Value q) s most c h = let room = h.1 in (h.0, omega (arith, length-append s.run (encode c), length-encode c))
-room_next lim TagName s most c h = let room = h.1 in (h.0, omega (arith, length-append s.name (encode c), length-encode c))
-room_next lim AttributeName s most c h = let room = h.1 in (h.0, omega (arith, length-append s.attr (encode c), length-encode c))
-room_next lim Comment s most c h = h
-room_next lim Instruction s most c h = h
-room_next lim CDSect s most c h = let room = h.1 in (h.0, omega (arith, length-append s.run (encode c), length-encode c))
+room_next lim spans.Text s most c h = let room = h.2 in (h.0, h.1, omega (arith, length-append s.run (encode c), length-encode c))
+room_next lim (spans.Value q) s most c h = let room = h.1 in (h.0, omega (arith, length-append s.run (encode c), length-encode c))
+room_next lim spans.TagName s most c h = let room = h.1 in (h.0, omega (arith, length-append s.name (encode c), length-encode c))
+room_next lim spans.AttributeName s most c h = let room = h.1 in (h.0, omega (arith, length-append s.attr (encode c), length-encode c))
+room_next lim spans.Comment s most c h = h
+room_next lim spans.Instruction s most c h = h
+room_next lim spans.CDSect s most c h = let room = h.1 in (h.0, omega (arith, length-append s.run (encode c), length-encode c))
 
 pub span_read : (lim : Limits) (span : Span) (s : State) (most : ℕ) (cs : List ℕ) → Allows lim most span s → list_all (stands span) cs ≡ true → size cs ≤ most → (place : ℕ) → judged_steps lim place s cs ≡ Ok (spread span s (encodes cs))
 span_read lim span s most [] a h l place = ap Ok (sym (spread_none span s))
@@ -171,14 +171,14 @@ span_moves lim span s t text n most u a f e =
 -- ---- where a span ends
 
 stop_high : (span : Span) (c : ℕ) → 128 ≤ c → is_stop span c ≡ false
-stop_high Text c l = grind (arith, nat_tests)
-stop_high (Value Single) c l = grind (arith, nat_tests)
-stop_high (Value Double) c l = grind (arith, nat_tests)
-stop_high TagName c l = refl
-stop_high AttributeName c l = refl
-stop_high Comment c l = grind (arith, nat_tests)
-stop_high Instruction c l = grind (arith, nat_tests)
-stop_high CDSect c l = grind (arith, nat_tests)
+stop_high spans.Text c l = grind (arith, nat_tests)
+stop_high (spans.Value Single) c l = grind (arith, nat_tests)
+stop_high (spans.Value Double) c l = grind (arith, nat_tests)
+stop_high spans.TagName c l = refl
+stop_high spans.AttributeName c l = refl
+stop_high spans.Comment c l = grind (arith, nat_tests)
+stop_high spans.Instruction c l = grind (arith, nat_tests)
+stop_high spans.CDSect c l = grind (arith, nat_tests)
 
 by_text : (a x y : Bool) → a ≡ true → x || y ≡ false → a && (not x && not y) ≡ true
 by_text true false false e f = refl
@@ -199,13 +199,13 @@ by_one a true e f = absurd (true≢false f)
 by_one false x e f = absurd (false≢true e)
 
 one_stands : (span : Span) (c : ℕ) → is_name_span span ≡ false → is_char c ≡ true → is_stop span c ≡ false → stands span c ≡ true
-one_stands Text c m h f = by_text (is_char c) (eqb c 60) (eqb c 38) h f
-one_stands (Value q) c m h f = by_value (is_char c) (eqb c 60) (eqb c 38) (eqb c (quote_of q)) h f
-one_stands Comment c m h f = by_one (is_char c) (eqb c 45) h f
-one_stands Instruction c m h f = by_one (is_char c) (eqb c 63) h f
-one_stands TagName c m h f = absurd (true≢false m)
-one_stands AttributeName c m h f = absurd (true≢false m)
-one_stands CDSect c m h f = by_one (is_char c) (eqb c 93) h f
+one_stands spans.Text c m h f = by_text (is_char c) (eqb c 60) (eqb c 38) h f
+one_stands (spans.Value q) c m h f = by_value (is_char c) (eqb c 60) (eqb c 38) (eqb c (quote_of q)) h f
+one_stands spans.Comment c m h f = by_one (is_char c) (eqb c 45) h f
+one_stands spans.Instruction c m h f = by_one (is_char c) (eqb c 63) h f
+one_stands spans.TagName c m h f = absurd (true≢false m)
+one_stands spans.AttributeName c m h f = absurd (true≢false m)
+one_stands spans.CDSect c m h f = by_one (is_char c) (eqb c 93) h f
 
 each_stands : (span : Span) (cs : List ℕ) → is_name_span span ≡ false → list_all is_char cs ≡ true → list_all (λ b. not (is_stop span b)) (encodes cs) ≡ true → list_all (stands span) cs ≡ true
 each_stands span [] m h f = refl
@@ -279,13 +279,13 @@ name_span_front span text most end n m few b f = by span m
     inside = ap (λ l. list_all is_part_char (chars l)) (sym (take-take n end text short)) ∙ f.inside
 
     by : (span : Span) → is_name_span span ≡ true → IsSpanFront n most span text
-    by TagName m = record { few = omega (arith, short); front = record { boundary = boundary; inside = inside } }
-    by AttributeName m = record { few = omega (arith, short); front = record { boundary = boundary; inside = inside } }
-    by Text m = absurd (false≢true m)
-    by (Value q) m = absurd (false≢true m)
-    by Comment m = absurd (false≢true m)
-    by Instruction m = absurd (false≢true m)
-    by CDSect m = absurd (false≢true m)
+    by spans.TagName m = record { few = omega (arith, short); front = record { boundary = boundary; inside = inside } }
+    by spans.AttributeName m = record { few = omega (arith, short); front = record { boundary = boundary; inside = inside } }
+    by spans.Text m = absurd (false≢true m)
+    by (spans.Value q) m = absurd (false≢true m)
+    by spans.Comment m = absurd (false≢true m)
+    by spans.Instruction m = absurd (false≢true m)
+    by spans.CDSect m = absurd (false≢true m)
 
 -- ---- the name of an end tag
 

@@ -19,7 +19,7 @@ use Rattle.gcx_model.specs.Grammar.{may_open}
 use Rattle.doc_chars.specs.Stream.{AreChars}
 use Rattle.doc_chars.proofs.Streams.{are_text as utf8_of}
 use Rattle.doc_laws.specs.Machine as laws
-use Rattle.doc_laws.specs.Machine.{Mode, Referring, Letters, State, Between, Less, StartName, StartSpace, AttributeName, Equals, InValue, InValueReference, InReference, ValueEnd, Slash, EndName, innermost, begun, opened, emptied, valued, behind, refer, on_referred, on_ended, to_end_name, step}
+use Rattle.doc_laws.specs.Machine.{MachineMode, ReferenceRead, Letters, State, Between, Less, StartName, StartSpace, AttributeName, Equals, InValue, InValueReference, InReference, ValueEnd, Slash, EndName, innermost, begun, opened, emptied, valued, behind, refer, on_referred, on_ended, to_end_name, step}
 use Rattle.doc_laws.specs.Judging.{naming_by, begins_deep, is_deep, judged_by, judged, judged_steps, on_ok}
 use Rattle.doc_laws.proofs.Pieces.{size_is}
 use Rattle.doc_laws.proofs.Moves.{behind_self}
@@ -29,8 +29,8 @@ use Rattle.doc_machine.specs.Machine.{quote_of}
 use Rattle.doc_machine.specs.Steps.{ClosedBy}
 use Rattle.doc_parts.specs.declared.reference.Entity.{Entity}
 use Rattle.doc_parts.specs.declared.reference.Entity.TheVariants as entities
-use Rattle.doc_parts.specs.declared.span.Span.TheVariants.{TagName, AttributeName as ValueName}
-use Rattle.doc_parts.specs.Reading.{IsFirst, Moves}
+use Rattle.doc_parts.specs.declared.span.Span.TheVariants as spans
+use Rattle.doc_parts.specs.Reading.{IsFirstChar, Moves}
 use Rattle.doc_parts.specs.Spans.{IsNameFront}
 use Rattle.doc_parts.specs.Wholes.{named, in_value, IsBetween, MayRefer, reference_of, character_of}
 use Rattle.doc_machine.proofs.Behind.{inside_name}
@@ -52,7 +52,7 @@ moves_on lim s t u text n k a b =
       sound = λ h. b.sound (a.sound h);
     }
 
-pub first_all : (c : ℕ) (rest text : List ℕ) → AreChars text → IsFirst c rest text → AreChars rest
+pub first_all : (c : ℕ) (rest text : List ℕ) → AreChars text → IsFirstChar c rest text → AreChars rest
 first_all c rest text h f = record {
   cs = chars rest;
   chars = (and_parts (is_char c) (list_all is_char (chars rest)) (ap (list_all is_char) (sym f.first) ∙ all_chars text h)).1;
@@ -121,7 +121,7 @@ begin_at lim s (c ∷ cs) i run d n l place =
     let here = place + len_utf8 60 in
     step_on lim place (record s { mode = Between }) (record s { mode = Less }) (named s (encodes (c ∷ cs))) 60 (c ∷ cs) (less_step lim place s run)
     (step_on lim here (record s { mode = Less }) t (named s (encodes (c ∷ cs))) c cs (name_step lim here s c i run d both.0 (omega arith))
-    (span_read lim TagName t (size cs) cs (record { run = run; room = (refl, omega (arith, length-encode c)) }) both.1 (omega arith) (here + len_utf8 c)))
+    (span_read lim spans.TagName t (size cs) cs (record { run = run; room = (refl, omega (arith, length-encode c)) }) both.1 (omega arith) (here + len_utf8 c)))
 
 begin_read : (lim : Limits) (s : State) (name : List ℕ) → Begins lim s name → (place : ℕ) → judged_steps lim place s (60 ∷ name) ≡ Ok (named s (encodes name))
 begin_read lim s name b place =
@@ -312,7 +312,7 @@ attribute_at lim s (c ∷ cs) q run d n l f place =
     judged_on lim place first u w (c ∷ cs) (61 ∷ (quote_of q ∷ []))
     (step_on lim place first t u c cs
     (quiet lim place first t c (cond-true (is_start_char c) _ _ both.0) none (lt-leb lim.depth (length s.names + 1) d) (omega (arith, length-encode c)))
-    (span_read lim ValueName t (size cs) cs (record { run = none; room = (refl, omega (arith, length-encode c)) }) both.1 (omega arith) (place + len_utf8 c)))
+    (span_read lim spans.AttributeName t (size cs) cs (record { run = none; room = (refl, omega (arith, length-encode c)) }) both.1 (omega arith) (place + len_utf8 c)))
     (step_on lim here u v w 61 (quote_of q ∷ [])
     (calm lim here u v 61 (cond-true (is_fresh m s.attrs) _ _ f) none refl (omega arith))
     (step_last lim (here + len_utf8 61) v w (quote_of q)
@@ -381,13 +381,13 @@ slash_moves lim s t text after u m run e same =
 -- ---- references
 
 -- where a reference stands: the mode in it, and the one before and behind it
-record Refers (lim : Limits) (s : State) (mk : Referring → Mode) (mode : Mode) : Type 0 where
+record Refers (lim : Limits) (s : State) (mk : ReferenceRead → MachineMode) (mode : MachineMode) : Type 0 where
   pub run : length s.run < lim.text
   pub begins : step (record s { mode = mode }) 38 ≡ Some (record s { mode = mk (Letters []) })
-  pub goes_on : (r : Referring) (c : ℕ) → step (record s { mode = mk r }) c ≡ on_referred (record s { mode = mk r }) mk mode (refer r c)
-  pub deep : (r : Referring) → begins_deep lim (record s { mode = mk r }) (mk r) ≡ false
+  pub goes_on : (r : ReferenceRead) (c : ℕ) → step (record s { mode = mk r }) c ≡ on_referred (record s { mode = mk r }) mk mode (refer r c)
+  pub deep : (r : ReferenceRead) → begins_deep lim (record s { mode = mk r }) (mk r) ≡ false
   pub here : begins_deep lim (record s { mode = mode }) mode ≡ false
-  pub named_in : (r : Referring) (t : State) → naming_by (mk r) t ≡ []
+  pub named_in : (r : ReferenceRead) (t : State) → naming_by (mk r) t ≡ []
   pub named_at : (t : State) → naming_by mode t ≡ []
 
 -- the letters are read behind others, and the semicolon ends them
@@ -395,7 +395,7 @@ abbrev Spelled : List ℕ → List ℕ → ℕ → Type 0
 Spelled read [] d = refer (Letters read) 59 ≡ laws.Done d
 Spelled read (c ∷ left) d = (refer (Letters read) c ≡ laws.More (Letters (read ++ (c ∷ [])))) × Spelled (read ++ (c ∷ [])) left d
 
-letters_read : (lim : Limits) (s : State) (mk : Referring → Mode) (mode : Mode) (read left : List ℕ) (d : ℕ) → Refers lim s mk mode → d < 128 → Spelled read left d → (place : ℕ)
+letters_read : (lim : Limits) (s : State) (mk : ReferenceRead → MachineMode) (mode : MachineMode) (read left : List ℕ) (d : ℕ) → Refers lim s mk mode → d < 128 → Spelled read left d → (place : ℕ)
     → judged_steps lim place (record s { mode = mk (Letters read) }) (left ++ (59 ∷ [])) ≡ Ok (record s { mode = mode; run = s.run ++ encode d })
 letters_read lim s mk mode read [] d f l h place =
     let r = Letters read in
@@ -422,7 +422,7 @@ entity_spelled entities.Ampersand = (97 ∷ (109 ∷ (112 ∷ [])), refl, (refl,
 entity_spelled entities.Quotation = (113 ∷ (117 ∷ (111 ∷ (116 ∷ []))), refl, (refl, (refl, (refl, (refl, refl)))), omega arith)
 entity_spelled entities.Apostrophe = (97 ∷ (112 ∷ (111 ∷ (115 ∷ []))), refl, (refl, (refl, (refl, (refl, refl)))), omega arith)
 
-reference_read : (lim : Limits) (s : State) (mk : Referring → Mode) (mode : Mode) (e : Entity) → Refers lim s mk mode → (place : ℕ) → judged_steps lim place (record s { mode = mode }) (reference_of e) ≡ Ok (record s { mode = mode; run = s.run ++ encode (character_of e) })
+reference_read : (lim : Limits) (s : State) (mk : ReferenceRead → MachineMode) (mode : MachineMode) (e : Entity) → Refers lim s mk mode → (place : ℕ) → judged_steps lim place (record s { mode = mode }) (reference_of e) ≡ Ok (record s { mode = mode; run = s.run ++ encode (character_of e) })
 reference_read lim s mk mode e f place =
     let (left, parts, spelled, low) = entity_spelled e in
     let run = f.run in

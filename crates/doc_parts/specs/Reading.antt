@@ -5,13 +5,13 @@ use Rattle.std.specs.Char.{len_utf8}
 use Rattle.std.specs.Str.{chars, IsUtf8, IsCharBoundary}
 use Rattle.gcx_base.specs.declared.limits.Limits.{Limits}
 use Rattle.gcx_model.specs.Faults.{size}
-use Rattle.gcx_model.specs.Tree.{Token}
+use Rattle.gcx_model.specs.Tree.{TreeToken}
 use Rattle.doc_laws.specs.Machine.{State}
 use Rattle.doc_laws.specs.Judging.{judged_steps}
 use Rattle.doc_machine.specs.Sound.{IsSound}
 
 -- c is the first character of the text, and the rest stands behind it
-pub record IsFirst (c : ℕ) (rest text : List ℕ) : Type 0 where
+pub record IsFirstChar (c : ℕ) (rest text : List ℕ) : Type 0 where
   pub first : chars text ≡ c ∷ chars rest
   pub size_is : length text ≡ len_utf8 c + length rest
   pub utf8 : IsUtf8 rest
@@ -26,7 +26,7 @@ pub record Moves (lim : Limits) (old : State) (text : List ℕ) (n : ℕ) (new :
   pub sound : IsSound old → IsSound new
 
 -- Some characters at the front are read, and the tokens of the whole tags in them wait.
-pub record Stops (lim : Limits) (old : State) (text : List ℕ) (waiting : List Token) : Type 0 where
+pub record Stops (lim : Limits) (old : State) (text : List ℕ) (waiting : List TreeToken) : Type 0 where
   pub n : ℕ
   pub state : State
   pub moves : Moves lim old text n state

@@ -13,36 +13,36 @@ use Rattle.doc_laws.specs.Machine as laws
 use Rattle.doc_laws.specs.Machine.{State}
 use Rattle.doc_machine.specs.Machine.{quote_of}
 use Rattle.doc_parts.specs.declared.span.Span.{Span}
-use Rattle.doc_parts.specs.declared.span.Span.TheVariants.{Text, Value, TagName, AttributeName, Comment, Instruction, CDSect}
+use Rattle.doc_parts.specs.declared.span.Span.TheVariants as spans
 
 -- the characters that stand in a span
 abbrev pub stands : Span → ℕ → Bool
-stands Text c = is_text_char c
-stands (Value q) c = is_value_char (quote_of q) c
-stands TagName c = is_part_char c
-stands AttributeName c = is_part_char c
-stands Comment c = is_char c && not (c == 45)
-stands Instruction c = is_char c && not (c == 63)
-stands CDSect c = is_char c && not (c == 93)
+stands spans.Text c = is_text_char c
+stands (spans.Value q) c = is_value_char (quote_of q) c
+stands spans.TagName c = is_part_char c
+stands spans.AttributeName c = is_part_char c
+stands spans.Comment c = is_char c && not (c == 45)
+stands spans.Instruction c = is_char c && not (c == 63)
+stands spans.CDSect c = is_char c && not (c == 93)
 
 -- the members of NameChar below #x80
 abbrev pub is_short_part : ℕ → Bool
 is_short_part b = (b == 45) || ((b == 46) || (between 48 57 b || ((b == 58) || (between 65 90 b || ((b == 95) || between 97 122 b)))))
 
 abbrev pub is_name_span : Span → Bool
-is_name_span TagName = true
-is_name_span AttributeName = true
+is_name_span spans.TagName = true
+is_name_span spans.AttributeName = true
 is_name_span other = false
 
 -- the bytes at which a span may end, where it isn't a name
 abbrev pub is_stop : Span → ℕ → Bool
-is_stop Text = is_byte2 60 38
-is_stop (Value q) = is_byte3 60 38 (quote_of q)
-is_stop TagName = λ b. false
-is_stop AttributeName = λ b. false
-is_stop Comment = is_byte 45
-is_stop Instruction = is_byte 63
-is_stop CDSect = is_byte 93
+is_stop spans.Text = is_byte2 60 38
+is_stop (spans.Value q) = is_byte3 60 38 (quote_of q)
+is_stop spans.TagName = λ b. false
+is_stop spans.AttributeName = λ b. false
+is_stop spans.Comment = is_byte 45
+is_stop spans.Instruction = is_byte 63
+is_stop spans.CDSect = is_byte 93
 
 -- the first such byte, or the end
 pub record IsStop (n : ℕ) (span : Span) (bytes : List ℕ) : Type 0 where
@@ -71,23 +71,23 @@ pub record IsSpanFront (n most : ℕ) (span : Span) (text : List ℕ) : Type 0 w
 
 -- the state with bytes of the span more
 abbrev pub spread : Span → State → List ℕ → State
-spread Text s bytes = record s { run = s.run ++ bytes }
-spread (Value q) s bytes = record s { run = s.run ++ bytes }
-spread TagName s bytes = record s { name = s.name ++ bytes }
-spread AttributeName s bytes = record s { attr = s.attr ++ bytes }
-spread Comment s bytes = s
-spread Instruction s bytes = s
-spread CDSect s bytes = record s { run = s.run ++ bytes }
+spread spans.Text s bytes = record s { run = s.run ++ bytes }
+spread (spans.Value q) s bytes = record s { run = s.run ++ bytes }
+spread spans.TagName s bytes = record s { name = s.name ++ bytes }
+spread spans.AttributeName s bytes = record s { attr = s.attr ++ bytes }
+spread spans.Comment s bytes = s
+spread spans.Instruction s bytes = s
+spread spans.CDSect s bytes = record s { run = s.run ++ bytes }
 
 -- the mode is that of the span, and there is room for so many bytes
 abbrev pub HasRoom : Limits → ℕ → Span → State → Type 0
-HasRoom lim most Text s = (s.mode ≡ laws.Between) × (is_inside s.names ≡ true) × (most ≤ lim.text - length s.run)
-HasRoom lim most (Value q) s = (s.mode ≡ laws.InValue (quote_of q)) × (most ≤ lim.text - length s.run)
-HasRoom lim most TagName s = (s.mode ≡ laws.StartName) × (most ≤ lim.name - length s.name)
-HasRoom lim most AttributeName s = (s.mode ≡ laws.AttributeName) × (most ≤ lim.name - length s.attr)
-HasRoom lim most Comment s = s.mode ≡ laws.Comment
-HasRoom lim most Instruction s = s.mode ≡ laws.InInstruction 0
-HasRoom lim most CDSect s = (s.mode ≡ laws.InCDSect 0) × (most ≤ lim.text - length s.run)
+HasRoom lim most spans.Text s = (s.mode ≡ laws.Between) × (is_inside s.names ≡ true) × (most ≤ lim.text - length s.run)
+HasRoom lim most (spans.Value q) s = (s.mode ≡ laws.InValue (quote_of q)) × (most ≤ lim.text - length s.run)
+HasRoom lim most spans.TagName s = (s.mode ≡ laws.StartName) × (most ≤ lim.name - length s.name)
+HasRoom lim most spans.AttributeName s = (s.mode ≡ laws.AttributeName) × (most ≤ lim.name - length s.attr)
+HasRoom lim most spans.Comment s = s.mode ≡ laws.Comment
+HasRoom lim most spans.Instruction s = s.mode ≡ laws.InInstruction 0
+HasRoom lim most spans.CDSect s = (s.mode ≡ laws.InCDSect 0) × (most ≤ lim.text - length s.run)
 
 pub record Allows (lim : Limits) (most : ℕ) (span : Span) (s : State) : Type 0 where
   pub run : length s.run ≤ lim.text

@@ -6,7 +6,7 @@ use Rattle.std.proofs.lemmas.Str.{chars-encodes}
 use lib.Utf8.{encodes}
 use Rattle.gcx_base.specs.declared.limits.Limits.{Limits}
 use Rattle.gcx_model.specs.Document.{Nodes}
-use Rattle.gcx_model.specs.Tree.{Token as Said, End as said_end}
+use Rattle.gcx_model.specs.Tree.{TreeToken as Said, End as said_end}
 use Rattle.gcx_model.specs.Grammar.{SpellsDocument}
 use Rattle.gcx_model.specs.Faults.{Decodes, Clean, FaultIs, within_limit, before_limit, past_limit, FaultWithin, by_character, by_sequence, by_cut, by_end, none_yet, none_whole, fault_of}
 use Rattle.gcx_model.specs.Seen.{closes, stays_open}

@@ -5,25 +5,25 @@ use Rattle.std.specs.Char.{len_utf8}
 use lib.Utf8.{encode}
 use Rattle.gcx_base.specs.Characters.{is_char, is_white, is_start_char, is_part_char}
 use Rattle.gcx_base.specs.declared.limits.Limits.{Limits}
-use Rattle.gcx_model.specs.Tree.{Token, End}
+use Rattle.gcx_model.specs.Tree.{TreeToken, End}
 use Rattle.gcx_model.specs.Attributes.{is_text_char, is_value_char, is_quote, is_fresh}
 use Rattle.gcx_model.specs.Markup.{is_doc_char, is_literal_char}
 use Rattle.gcx_model.specs.Grammar.{may_open}
 use Rattle.gcx_model.specs.Fronts.{is_inside, text_of}
-use Rattle.gcx_model.specs.Faults.{Refusal, AtText, AtDepth, AtName}
-use Rattle.doc_laws.specs.Machine.{Referred, More, Done, Bad, Referring, Mode, Opening, Between, Less, StartName, StartSpace, AttributeName, AttributeSpace, Equals, InValue, InValueReference, ValueEnd, Slash, EndName, EndSpace, Question, Target, TargetMark, InInstruction, DocWord, DocSpace, Doc, DocLiteral, Bang, BangDash, Comment, CommentDash, CommentEnd, CDSectWord, InCDSect, InReference, State, begun, opened, emptied, closed, on_between, on_tag, on_named, on_ended, on_referred, refer, behind, to_end_name, on_end, on_word, on_mode, step}
+use Rattle.gcx_model.specs.Faults.{DocumentRefusal, AtText, AtDepth, AtName}
+use Rattle.doc_laws.specs.Machine.{Referred, More, Done, Bad, ReferenceRead, MachineMode, Opening, Between, Less, StartName, StartSpace, AttributeName, AttributeSpace, Equals, InValue, InValueReference, ValueEnd, Slash, EndName, EndSpace, Question, Target, TargetMark, InInstruction, DocWord, DocSpace, Doc, DocLiteral, Bang, BangDash, Comment, CommentDash, CommentEnd, CDSectWord, InCDSect, InReference, State, begun, opened, emptied, closed, on_between, on_tag, on_named, on_ended, on_referred, refer, behind, to_end_name, on_end, on_word, on_mode, step}
 use Rattle.doc_laws.specs.Judging.{naming_by, is_deep, deep_place, judged_by, judged, on_ok, judged_steps}
 use Rattle.doc_reader.specs.Standing.{with_given}
 
-abbrev pub ahead : List Token → Option State → Option State
+abbrev pub ahead : List TreeToken → Option State → Option State
 ahead before None = None
 ahead before (Some s) = Some (with_given before s)
 
-abbrev pub ahead_ok : List Token → Result State Refusal → Result State Refusal
+abbrev pub ahead_ok : List TreeToken → Result State DocumentRefusal → Result State DocumentRefusal
 ahead_ok before (Ok s) = Ok (with_given before s)
 ahead_ok before (Err f) = Err f
 
-module _ (before : List Token) where
+module _ (before : List TreeToken) where
   -- the second is the first with the tokens before it
   abbrev Follows : Option State → Option State → Type 0
   Follows o p = p ≡ ahead before o
@@ -41,16 +41,16 @@ module _ (before : List Token) where
   f3 : (a b c : Bool) (x y z p q r : Option State) → Follows x p → Follows y q → Follows z r → Follows (cond a x (cond b y (cond c z None))) (cond a p (cond b q (cond c r None)))
   f3 a b c x y z p q r h k l = f_cond a x _ p _ h (f2 b c y z q r k l)
 
-  f_word : (s : State) (c : ℕ) (mk : List ℕ → Mode) (left : List ℕ) (y q : Option State) → Follows y q → Follows (on_word s c mk left y) (on_word (with_given before s) c mk left q)
+  f_word : (s : State) (c : ℕ) (mk : List ℕ → MachineMode) (left : List ℕ) (y q : Option State) → Follows y q → Follows (on_word s c mk left y) (on_word (with_given before s) c mk left q)
   f_word s c mk (d ∷ left) y q h = f1 (eqb c d) _ _ refl
   f_word s c mk [] y q h = h
 
-  f_referred : (s : State) (mk : Referring → Mode) (m : Mode) (a : Referred) → Follows (on_referred s mk m a) (on_referred (with_given before s) mk m a)
+  f_referred : (s : State) (mk : ReferenceRead → MachineMode) (m : MachineMode) (a : Referred) → Follows (on_referred s mk m a) (on_referred (with_given before s) mk m a)
   f_referred s mk m (More r) = refl
   f_referred s mk m (Done c) = refl
   f_referred s mk m Bad = refl
 
-  with_more : (s : State) (more : List Token) → (before ++ s.tokens) ++ more ≡ before ++ (s.tokens ++ more)
+  with_more : (s : State) (more : List TreeToken) → (before ++ s.tokens) ++ more ≡ before ++ (s.tokens ++ more)
   with_more s more = append_assoc before s.tokens more
 
   f_opened : (s : State) → Follows (Some (opened s)) (Some (opened (with_given before s)))
@@ -83,7 +83,7 @@ module _ (before : List Token) where
   f_between : (s : State) (c : ℕ) → Follows (on_between s c) (on_between (with_given before s) c)
   f_between s c = f_cond (is_text_char c && is_inside s.names) _ _ _ _ refl (f3 (is_white c && not (is_inside s.names)) (eqb c 60) (eqb c 38 && is_inside s.names) _ _ _ _ _ _ refl refl refl)
 
-  f_mode : (s : State) (c : ℕ) (m : Mode) → Follows (on_mode s c m) (on_mode (with_given before s) c m)
+  f_mode : (s : State) (c : ℕ) (m : MachineMode) → Follows (on_mode s c m) (on_mode (with_given before s) c m)
   f_mode s c Opening = f_cond (eqb c 65279) _ _ _ _ refl (f_between s c)
   f_mode s c Between = f_between s c
   f_mode s c Less = f_cond (is_start_char c && may_open (is_inside s.names) s.rooted) _ _ _ _ refl (f3 (eqb c 47 && is_inside s.names) (eqb c 33) (eqb c 63) _ _ _ _ _ _ refl refl refl)
@@ -124,7 +124,7 @@ module _ (before : List Token) where
       ap (λ n. cond (nat_lt lim.text (length t.run)) (Err (AtText k)) (cond (is_deep lim s c) (Err (AtDepth (deep_place k s.mode))) (cond (nat_lt lim.name (length n)) (Err (AtName k)) (Ok (with_given before t))))) (naming t.mode)
       ∙ three (nat_lt lim.text (length t.run)) (is_deep lim s c) (nat_lt lim.name (length (naming_by t.mode t)))
     where
-      naming : (m : Mode) → naming_by m (with_given before t) ≡ naming_by m t
+      naming : (m : MachineMode) → naming_by m (with_given before t) ≡ naming_by m t
       naming StartName = refl
       naming AttributeName = refl
       naming m = refl
@@ -141,8 +141,8 @@ module _ (before : List Token) where
   pub steps_ahead : (lim : Limits) (k : ℕ) (s : State) (cs : List ℕ) → judged_steps lim k (with_given before s) cs ≡ ahead_ok before (judged_steps lim k s cs)
   steps_ahead lim k s [] = refl
   steps_ahead lim k s (c ∷ cs) =
-      ap (λ (r : Result State Refusal). on_ok r (λ t. judged_steps lim (k + len_utf8 c) t cs)) (judged_ahead lim k s c)
-      ∙ elim (judged lim k s c) as (λ (r : Result State Refusal). on_ok (ahead_ok before r) (λ t. judged_steps lim (k + len_utf8 c) t cs) ≡ ahead_ok before (on_ok r (λ t. judged_steps lim (k + len_utf8 c) t cs))) [
+      ap (λ (r : Result State DocumentRefusal). on_ok r (λ t. judged_steps lim (k + len_utf8 c) t cs)) (judged_ahead lim k s c)
+      ∙ elim (judged lim k s c) as (λ (r : Result State DocumentRefusal). on_ok (ahead_ok before r) (λ t. judged_steps lim (k + len_utf8 c) t cs) ≡ ahead_ok before (on_ok r (λ t. judged_steps lim (k + len_utf8 c) t cs))) [
         | Err f ↦ refl
         | Ok t ↦ steps_ahead lim (k + len_utf8 c) t cs
       ]

@@ -3,13 +3,13 @@ use Rattle.std.proofs.Common.{ℕ, zero, suc, ◌≡◌, ◌≤◌, ◌<◌, Boo
 use Rattle.std.proofs.lemmas.Bool.{eqb-true, true≢false}
 use Rattle.std.proofs.lemmas.List.{drop_all, length-map, take-append-drop, take-map, take_all}
 use Rattle.gcx_base.specs.declared.limits.Limits.{Limits}
-use Rattle.gcx_model.specs.Tree.{Token as Said}
+use Rattle.gcx_model.specs.Tree.{TreeToken as Said}
 use Rattle.doc_tokens.specs.declared.token.Token.{Token}
 use Rattle.doc_tokens.specs.declared.token.Token.TheVariants.{EndOfDocument}
 use Rattle.doc_tokens.specs.declared.lent.Lent.{Lent}
 use Rattle.doc_tokens.specs.declared.lent.Lent.TheVariants as lents
 use Rattle.doc_tokens.specs.Parts.{AreLent}
-use Rattle.doc_reader.specs.Standing.{Keeps, ReaderView, Stands, answer_of, behind_lent, behind_tokens, end_token, given_token, lent_next, lent_of, said_of, waiting, with_tokens}
+use Rattle.doc_reader.specs.Standing.{KeepsAnswer, ReaderView, Stands, answer_of, behind_lent, behind_tokens, end_token, given_token, lent_next, lent_of, said_of, waiting, with_tokens}
 use Rattle.doc_reader.proofs.Givings.{map-append, said-map}
 use Rattle.doc_reader.proofs.Owning.{as_many, same_parts}
 use Rattle.doc_reader.proofs.Standings.{stands_ended, stands_taken}
@@ -74,10 +74,10 @@ behind_none h zero none few = behind_as h [] zero none
 behind_none h (suc n) none few = absurd (omega arith)
 
 -- the answer stays
-pub behind_keeps : (h : ReaderView) (count : ℕ) → Keeps h (behind_lent count h)
+pub behind_keeps : (h : ReaderView) (count : ℕ) → KeepsAnswer h (behind_lent count h)
 behind_keeps h count = by h.state.tokens count
   where
-    by : (ts : List Said) (n : ℕ) → Keeps h (behind_tokens h ts n)
+    by : (ts : List Said) (n : ℕ) → KeepsAnswer h (behind_tokens h ts n)
     by (t ∷ ts) n = record { finished = refl; answer = refl }
     by [] zero = record { finished = refl; answer = refl }
     by [] (suc n) = record { finished = refl; answer = refl }

@@ -1,7 +1,7 @@
 -- The tokens given and those that wait are those seen in the bytes.
 use Rattle.std.proofs.Common.{ℕ, ◌≡◌, Bool, true, List, [], ◌∷◌, ◌++◌, map, None, refl, sym, ap, ◌∙◌, subst, append_assoc, append-nil}
 use Rattle.gcx_base.specs.declared.limits.Limits.{Limits}
-use Rattle.gcx_model.specs.Tree.{Token as Said, Start as said_start, Chars as said_text, End as said_end}
+use Rattle.gcx_model.specs.Tree.{TreeToken as Said, Start as said_start, Chars as said_text, End as said_end}
 use Rattle.gcx_model.specs.Faults.{FaultIs}
 use Rattle.gcx_model.specs.Seen.{IsLongest, DocumentEnds, closes, stays_open}
 use Rattle.doc_laws.specs.States.{Fronts, state_of}

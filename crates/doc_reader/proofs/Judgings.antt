@@ -6,7 +6,7 @@ use Rattle.std.proofs.lemmas.Str.{chars-encodes}
 use lib.Utf8.{encode, scalar}
 use Rattle.std.proofs.lemmas.Bool.{and_from}
 use Rattle.gcx_base.specs.declared.limits.Limits.{Limits}
-use Rattle.gcx_model.specs.Faults.{Refusal, size}
+use Rattle.gcx_model.specs.Faults.{DocumentRefusal, size}
 use Rattle.doc_laws.specs.Machine.{State}
 use Rattle.doc_laws.specs.Judging.{judged, on_ok, judged_steps}
 use Rattle.doc_laws.proofs.Pieces.{size_is}
@@ -24,7 +24,7 @@ pub text_size : (bs : List ℕ) → IsUtf8 bs → length bs ≡ size (chars bs)
 text_size bs u = ap length (sym u.1.1) ∙ sym (size_is u.0) ∙ ap size (sym (chars-encodes u.0 u.1.0) ∙ ap chars u.1.1)
 
 module _ (lim : Limits) (place : ℕ) (m : State) (a b : List ℕ) where
-  pub reads_both : (t : State) (at : ℕ) (r : Result State Refusal) → judged_steps lim place m a ≡ Ok t → at ≡ place + size a → judged_steps lim at t b ≡ r → judged_steps lim place m (a ++ b) ≡ r
+  pub reads_both : (t : State) (at : ℕ) (r : Result State DocumentRefusal) → judged_steps lim place m a ≡ Ok t → at ≡ place + size a → judged_steps lim at t b ≡ r → judged_steps lim place m (a ++ b) ≡ r
   reads_both t at r e k f =
       judged_append lim place m a b ∙ ap (λ q. on_ok q (λ u. judged_steps lim (place + size a) u b)) e ∙ ap (λ n. judged_steps lim n t b) (sym k) ∙ f
 

@@ -2,7 +2,7 @@
 use Rattle.std.proofs.Common.{ℕ, zero, suc, ◌≡◌, ◌+◌, ◌<◌, Bool, List, [], ◌∷◌, ◌++◌, length, take, get_or, map, Option, Some, None, refl, sym, ap, ◌∙◌, subst, append_assoc, append-nil, take_at, arith}
 use Rattle.std.proofs.lemmas.List.{take_more, length-map, map-append as maps_append}
 use Rattle.gcx_base.specs.declared.limits.Limits.{Limits}
-use Rattle.gcx_model.specs.Tree.{Token as Said}
+use Rattle.gcx_model.specs.Tree.{TreeToken as Said}
 use Rattle.doc_tokens.specs.declared.token.Token.{Token}
 use Rattle.doc_tokens.specs.declared.lent.Lent.{Lent}
 use Rattle.doc_tokens.specs.Parts.{lent_token, LiesWithin, AllLieWithin, AreLent}

@@ -4,10 +4,10 @@ use Rattle.std.proofs.lemmas.Str.{encodes-append}
 use lib.Utf8.{scalar, scalars, encode, encodes}
 use Rattle.std.proofs.lemmas.Bool.{and_from}
 use Rattle.gcx_base.specs.declared.limits.Limits.{Limits}
-use Rattle.gcx_model.specs.Tree.{Token as Said}
+use Rattle.gcx_model.specs.Tree.{TreeToken as Said}
 use Rattle.gcx_model.specs.declared.fault.DocFault.{DocFault}
-use Rattle.gcx_model.specs.declared.fault.DocFault.TheVariants.{Utf8, Syntax, Truncated, Depth, NameLong, TextLong, TooLong, Memory}
-use Rattle.gcx_model.specs.Faults.{Refusal, AtSyntax, fault_of, size, AtDepth, AtName, AtText, Comes, by_character, by_sequence, FaultIs, FaultWithin, within_limit, past_limit}
+use Rattle.gcx_model.specs.declared.fault.DocFault.TheVariants as doc_faults
+use Rattle.gcx_model.specs.Faults.{DocumentRefusal, AtSyntax, fault_of, size, AtDepth, AtName, AtText, Comes, by_character, by_sequence, FaultIs, FaultWithin, within_limit, past_limit}
 use Rattle.gcx_model.specs.Seen.{IsLongest}
 use Rattle.doc_chars.specs.declared.chars.CharFault.{CharFault}
 use Rattle.doc_chars.specs.declared.chars.CharFault.TheVariants.{Utf8 as not_utf8, Char as no_char}
@@ -77,7 +77,7 @@ module _ (old new : ReaderView) (lim : Limits) (b piece : List ℕ) (given : Lis
       }
 
   -- the machine refuses one of them
-  pub refuses_at : (f : Refusal) → Parts (b ++ piece) (r.chars ++ ds) → Refuses lim old.place old.state ds f new.state.tokens → HasStopped new.state.tokens lim (b ++ piece) given × FaultIs lim (b ++ piece) false (Some (fault_of f))
+  pub refuses_at : (f : DocumentRefusal) → Parts (b ++ piece) (r.chars ++ ds) → Refuses lim old.place old.state ds f new.state.tokens → HasStopped new.state.tokens lim (b ++ piece) given × FaultIs lim (b ++ piece) false (Some (fault_of f))
   refuses_at f p q =
       let chars = r.chars ++ q.front in
       let state = with_given r.before q.state in
@@ -151,7 +151,7 @@ module _ (old new : ReaderView) (lim : Limits) (b piece : List ℕ) (given : Lis
           longest = λ more. longest_at_bad lim ((b ++ piece) ++ more) chars state reads
               (record { rest = w.rest ++ more; chars = p.scalars_are; parts = ap (λ l. l ++ more) w.bytes ∙ append_assoc (encodes chars) w.rest more; bad = bad_more w.rest more w.why.1 }) read.within;
         },
-        within_limit within (by_sequence chars (record { rest = w.rest; chars = p.scalars_are; parts = w.bytes; bad = w.why.1 }) reads.clean (ap (λ n. Some (Utf8 n)) at)),
+        within_limit within (by_sequence chars (record { rest = w.rest; chars = p.scalars_are; parts = w.bytes; bad = w.why.1 }) reads.clean (ap (λ n. Some (doc_faults.Utf8 n)) at)),
       )
   breaks_at (no_char k) w j =
       let chars = r.chars ++ ds in
@@ -172,7 +172,7 @@ module _ (old new : ReaderView) (lim : Limits) (b piece : List ℕ) (given : Lis
         },
         within_limit within (by_character (chars ++ n.c ∷ []) n.rest (AtSyntax (size chars)) (scalars_append chars (n.c ∷ []) p.scalars_are (and_from (scalar n.c) true n.scalar refl))
             (parts ∙ ap (λ l. encodes chars ++ (l ++ n.rest)) (sym (append-nil (encode n.c))) ∙ sym (append_assoc (encodes chars) (encode n.c ++ []) n.rest) ∙ ap (λ l. l ++ n.rest) (sym (encodes-append chars (n.c ∷ []))))
-            (record { front = chars; at = n.c; rest = []; parts = refl; clean = reads.clean; comes = comes }) (ap (λ m. Some (Syntax m)) at)),
+            (record { front = chars; at = n.c; rest = []; parts = refl; clean = reads.clean; comes = comes }) (ap (λ m. Some (doc_faults.Syntax m)) at)),
       )
 
 -- ---- what a part of the reader answers then
@@ -184,7 +184,7 @@ took_char : (h : ReaderView) (lim : Limits) (b : List ℕ) (given : List Token) 
 took_char h lim b given (not_utf8 k) q = q
 took_char h lim b given (no_char k) q = q
 
-took_refusal : (h : ReaderView) (lim : Limits) (b : List ℕ) (given : List Token) (f : Refusal) → Refused h lim b given (fault_of f) → Took {T = Unit {0}} (Err (fault_of f)) h lim b given
+took_refusal : (h : ReaderView) (lim : Limits) (b : List ℕ) (given : List Token) (f : DocumentRefusal) → Refused h lim b given (fault_of f) → Took {T = Unit {0}} (Err (fault_of f)) h lim b given
 took_refusal h lim b given (AtSyntax k) q = q
 took_refusal h lim b given (AtDepth k) q = q
 took_refusal h lim b given (AtName k) q = q
@@ -225,17 +225,17 @@ both_more : (h : ReaderView) (lim : Limits) (b more : List ℕ) (given : List To
 both_more h lim b more given f q = (stopped_more h.state.tokens lim b more given q.0, fault_stays lim b more false f q.1)
 
 pub took_more : (h : ReaderView) (lim : Limits) (b more : List ℕ) (given : List Token) (f : DocFault) → Took {T = Unit {0}} (Err f) h lim b given → Took {T = Unit {0}} (Err f) h lim (b ++ more) given
-took_more h lim b more given Memory q = (lost_more h.state.tokens lim b more given q.0, tt)
-took_more h lim b more given (Utf8 k) q = both_more h lim b more given (Utf8 k) q
-took_more h lim b more given (Syntax k) q = both_more h lim b more given (Syntax k) q
-took_more h lim b more given (Truncated k) q = both_more h lim b more given (Truncated k) q
-took_more h lim b more given (Depth k) q = both_more h lim b more given (Depth k) q
-took_more h lim b more given (NameLong k) q = both_more h lim b more given (NameLong k) q
-took_more h lim b more given (TextLong k) q = both_more h lim b more given (TextLong k) q
-took_more h lim b more given (TooLong k) q = both_more h lim b more given (TooLong k) q
+took_more h lim b more given doc_faults.Memory q = (lost_more h.state.tokens lim b more given q.0, tt)
+took_more h lim b more given (doc_faults.Utf8 k) q = both_more h lim b more given (doc_faults.Utf8 k) q
+took_more h lim b more given (doc_faults.Syntax k) q = both_more h lim b more given (doc_faults.Syntax k) q
+took_more h lim b more given (doc_faults.Truncated k) q = both_more h lim b more given (doc_faults.Truncated k) q
+took_more h lim b more given (doc_faults.Depth k) q = both_more h lim b more given (doc_faults.Depth k) q
+took_more h lim b more given (doc_faults.NameLong k) q = both_more h lim b more given (doc_faults.NameLong k) q
+took_more h lim b more given (doc_faults.TextLong k) q = both_more h lim b more given (doc_faults.TextLong k) q
+took_more h lim b more given (doc_faults.TooLong k) q = both_more h lim b more given (doc_faults.TooLong k) q
 
 -- the bytes that may be are read, and more follow
-pub took_past : (h : ReaderView) (lim : Limits) (b more : List ℕ) (given : List Token) → IsReading h lim b given → length b ≡ lim.bytes → 0 < length more → Took {T = Unit {0}} (Err (TooLong lim.bytes)) h lim (b ++ more) given
+pub took_past : (h : ReaderView) (lim : Limits) (b more : List ℕ) (given : List Token) → IsReading h lim b given → length b ≡ lim.bytes → 0 < length more → Took {T = Unit {0}} (Err (doc_faults.TooLong lim.bytes)) h lim (b ++ more) given
 took_past h lim b more given r full some =
     let kept = kept_of h lim b given r in
     let state = with_given r.before h.state in

@@ -4,14 +4,14 @@ use Rattle.std.specs.Char.{len_utf8}
 use Rattle.std.specs.Str.{chars}
 use Rattle.std.proofs.lemmas.Str.{chars-nil}
 use Rattle.gcx_base.specs.declared.limits.Limits.{Limits}
-use Rattle.gcx_model.specs.Faults.{Refusal, size}
+use Rattle.gcx_model.specs.Faults.{DocumentRefusal, size}
 use Rattle.doc_laws.specs.Machine.{State}
 use Rattle.doc_laws.specs.Judging.{judged, judged_steps, on_ok}
 use Rattle.doc_machine.specs.declared.stop.Stop.{Stop}
 use Rattle.doc_machine.specs.declared.stop.Stop.TheVariants.{Refused, Memory}
 use Rattle.doc_machine.specs.Refusals.{fault}
 use Rattle.doc_machine.specs.Limited.{JudgedOne}
-use Rattle.doc_parts.specs.Reading.{IsFirst, Moves, Stops}
+use Rattle.doc_parts.specs.Reading.{IsFirstChar, Moves, Stops}
 use Rattle.doc_reader.specs.Judged.{Refuses, ReadsFront, Judged}
 use Rattle.doc_reader.specs.Reading.{Reached}
 use Rattle.doc_machine.proofs.Sound.{judged_sound}
@@ -30,7 +30,7 @@ reached_moves lim place old text at s t rest n r m = record {
 pub judged_one : (lim : Limits) (place : ℕ) (s t : State) (c : ℕ) → judged lim place s c ≡ Ok t → judged_steps lim place s (c ∷ []) ≡ Ok t
 judged_one lim place s t c e = ap (λ r. on_ok r (λ v. judged_steps lim (place + len_utf8 c) v [])) e
 
-pub reached_first : (lim : Limits) (place : ℕ) (old : State) (text : List ℕ) (at next : ℕ) (s t : State) (c : ℕ) (rest after : List ℕ) → Reached lim place old text at s rest → IsFirst c after rest → judged lim at s c ≡ Ok t → next ≡ at + (length rest - length after) → Reached lim place old text next t after
+pub reached_first : (lim : Limits) (place : ℕ) (old : State) (text : List ℕ) (at next : ℕ) (s t : State) (c : ℕ) (rest after : List ℕ) → Reached lim place old text at s rest → IsFirstChar c after rest → judged lim at s c ≡ Ok t → next ≡ at + (length rest - length after) → Reached lim place old text next t after
 reached_first lim place old text at next s t c rest after r f e is = record {
   front = r.front ++ (c ∷ []);
   parts = r.parts ∙ ap (λ l. r.front ++ l) f.first ∙ sym (append_assoc r.front (c ∷ []) (chars after));
@@ -40,7 +40,7 @@ reached_first lim place old text at next s t c rest after r f e is = record {
   sound = judged_sound lim at s t c r.sound e;
 }
 
-pub reached_refused : (lim : Limits) (place : ℕ) (old : State) (text : List ℕ) (at : ℕ) (s t : State) (c : ℕ) (rest after : List ℕ) (f : Refusal) → Reached lim place old text at s rest → IsFirst c after rest → judged lim at s c ≡ Err f → t.tokens ≡ s.tokens → Refuses lim place old (chars text) f t.tokens
+pub reached_refused : (lim : Limits) (place : ℕ) (old : State) (text : List ℕ) (at : ℕ) (s t : State) (c : ℕ) (rest after : List ℕ) (f : DocumentRefusal) → Reached lim place old text at s rest → IsFirstChar c after rest → judged lim at s c ≡ Err f → t.tokens ≡ s.tokens → Refuses lim place old (chars text) f t.tokens
 reached_refused lim place old text at s t c rest after f r i e k = record {
   front = r.front;
   at = c;
@@ -62,6 +62,6 @@ pub reached_all : (lim : Limits) (place : ℕ) (old : State) (text : List ℕ) (
 reached_all lim place old text at s rest r e = ap (judged_steps lim place old) (r.parts ∙ ap (λ l. r.front ++ l) (ap chars e ∙ chars-nil) ∙ append-nil r.front) ∙ r.read
 
 -- a character where reading stops
-pub reached_stop : (lim : Limits) (place : ℕ) (old : State) (text : List ℕ) (at : ℕ) (s t : State) (c : ℕ) (rest after : List ℕ) (stop : Stop) → Reached lim place old text at s rest → IsFirst c after rest → JudgedOne {T = Unit {0}} (Err stop) lim at s c t → Judged {T = Unit {0}} (Err stop) lim place old (chars text) t
+pub reached_stop : (lim : Limits) (place : ℕ) (old : State) (text : List ℕ) (at : ℕ) (s t : State) (c : ℕ) (rest after : List ℕ) (stop : Stop) → Reached lim place old text at s rest → IsFirstChar c after rest → JudgedOne {T = Unit {0}} (Err stop) lim at s c t → Judged {T = Unit {0}} (Err stop) lim place old (chars text) t
 reached_stop lim place old text at s t c rest after (Refused f) r i j = reached_refused lim place old text at s t c rest after (fault f) r i j.0 j.1
 reached_stop lim place old text at s t c rest after Memory r i j = reached_front lim place old text at s t rest r j

@@ -3,9 +3,9 @@ use Rattle.std.proofs.Common.{ℕ, ◌≡◌, ◌-◌, ◌≤◌, inl, inr, Bool
 use Rattle.std.specs.Option.{is_some}
 use Rattle.std.proofs.lemmas.Bool.{false≢true, true≢false}
 use Rattle.gcx_base.specs.declared.limits.Limits.{Limits}
-use Rattle.gcx_model.specs.Tree.{Token as Said}
+use Rattle.gcx_model.specs.Tree.{TreeToken as Said}
 use Rattle.gcx_model.specs.declared.fault.DocFault.{DocFault}
-use Rattle.gcx_model.specs.declared.fault.DocFault.TheVariants.{Utf8, Syntax, Truncated, Depth, NameLong, TextLong, TooLong, Memory}
+use Rattle.gcx_model.specs.declared.fault.DocFault.TheVariants as doc_faults
 use Rattle.gcx_model.specs.Faults.{FaultIs, within_limit, size}
 use Rattle.gcx_model.specs.Seen.{IsLongest}
 use Rattle.doc_chars.specs.Stream.{StandsFor}
@@ -39,8 +39,8 @@ not_refused (Some f) e = absurd (true≢false e)
 
 -- a fault that comes at the end alone
 abbrev SaysEnd : DocFault → Type 0
-SaysEnd (Utf8 n) = Unit {0}
-SaysEnd (Truncated n) = Unit {0}
+SaysEnd (doc_faults.Utf8 n) = Unit {0}
+SaysEnd (doc_faults.Truncated n) = Unit {0}
 SaysEnd other = ⊥
 
 -- ---- what waits, by what the reader goes on from
@@ -56,14 +56,14 @@ gives_stopped waits lim b ended given f q k =
 
 gives_by : (o : Option DocFault) (h : ReaderView) (lim : Limits) (b : List ℕ) (given : List Token) → GoesOnBy o h lim b given → IsFault o lim b false → GivesBy o lim b false (given ++ (map given_token h.state.tokens ++ []))
 gives_by None h lim b given q k = gives_reading h lim b given q
-gives_by (Some Memory) h lim b given q k = gives_more h.state.tokens lim b q.chars false given q.read
-gives_by (Some (Utf8 n)) h lim b given q k = gives_stopped h.state.tokens lim b false given (Utf8 n) q k
-gives_by (Some (Syntax n)) h lim b given q k = gives_stopped h.state.tokens lim b false given (Syntax n) q k
-gives_by (Some (Truncated n)) h lim b given q k = gives_stopped h.state.tokens lim b false given (Truncated n) q k
-gives_by (Some (Depth n)) h lim b given q k = gives_stopped h.state.tokens lim b false given (Depth n) q k
-gives_by (Some (NameLong n)) h lim b given q k = gives_stopped h.state.tokens lim b false given (NameLong n) q k
-gives_by (Some (TextLong n)) h lim b given q k = gives_stopped h.state.tokens lim b false given (TextLong n) q k
-gives_by (Some (TooLong n)) h lim b given q k = gives_stopped h.state.tokens lim b false given (TooLong n) q k
+gives_by (Some doc_faults.Memory) h lim b given q k = gives_more h.state.tokens lim b q.chars false given q.read
+gives_by (Some (doc_faults.Utf8 n)) h lim b given q k = gives_stopped h.state.tokens lim b false given (doc_faults.Utf8 n) q k
+gives_by (Some (doc_faults.Syntax n)) h lim b given q k = gives_stopped h.state.tokens lim b false given (doc_faults.Syntax n) q k
+gives_by (Some (doc_faults.Truncated n)) h lim b given q k = gives_stopped h.state.tokens lim b false given (doc_faults.Truncated n) q k
+gives_by (Some (doc_faults.Depth n)) h lim b given q k = gives_stopped h.state.tokens lim b false given (doc_faults.Depth n) q k
+gives_by (Some (doc_faults.NameLong n)) h lim b given q k = gives_stopped h.state.tokens lim b false given (doc_faults.NameLong n) q k
+gives_by (Some (doc_faults.TextLong n)) h lim b given q k = gives_stopped h.state.tokens lim b false given (doc_faults.TextLong n) q k
+gives_by (Some (doc_faults.TooLong n)) h lim b given q k = gives_stopped h.state.tokens lim b false given (doc_faults.TooLong n) q k
 
 -- an open reader
 pub stands_open : (h : ReaderView) (lim : Limits) (b : List ℕ) (given : List Token) → h.limits ≡ lim → h.finished ≡ false → h.end_waits ≡ false → GoesOnBy h.refused h lim b given → IsFault h.refused lim b false → Stands h lim b false given
@@ -77,14 +77,14 @@ stands_open h lim b given l f e q k = record {
 
 -- the refusal that came is kept
 kept_by : (f : DocFault) (old new : ReaderView) (lim : Limits) (b : List ℕ) (given : List Token) → new.state ≡ old.state → GoesOnBy (Some f) old lim b given → GoesOnBy (Some f) new lim b given
-kept_by Memory old new lim b given e q = subst (λ (s : State). HasLost s.tokens lim b given) (sym e) q
-kept_by (Utf8 n) old new lim b given e q = subst (λ (s : State). HasStopped s.tokens lim b given) (sym e) q
-kept_by (Syntax n) old new lim b given e q = subst (λ (s : State). HasStopped s.tokens lim b given) (sym e) q
-kept_by (Truncated n) old new lim b given e q = subst (λ (s : State). HasStopped s.tokens lim b given) (sym e) q
-kept_by (Depth n) old new lim b given e q = subst (λ (s : State). HasStopped s.tokens lim b given) (sym e) q
-kept_by (NameLong n) old new lim b given e q = subst (λ (s : State). HasStopped s.tokens lim b given) (sym e) q
-kept_by (TextLong n) old new lim b given e q = subst (λ (s : State). HasStopped s.tokens lim b given) (sym e) q
-kept_by (TooLong n) old new lim b given e q = subst (λ (s : State). HasStopped s.tokens lim b given) (sym e) q
+kept_by doc_faults.Memory old new lim b given e q = subst (λ (s : State). HasLost s.tokens lim b given) (sym e) q
+kept_by (doc_faults.Utf8 n) old new lim b given e q = subst (λ (s : State). HasStopped s.tokens lim b given) (sym e) q
+kept_by (doc_faults.Syntax n) old new lim b given e q = subst (λ (s : State). HasStopped s.tokens lim b given) (sym e) q
+kept_by (doc_faults.Truncated n) old new lim b given e q = subst (λ (s : State). HasStopped s.tokens lim b given) (sym e) q
+kept_by (doc_faults.Depth n) old new lim b given e q = subst (λ (s : State). HasStopped s.tokens lim b given) (sym e) q
+kept_by (doc_faults.NameLong n) old new lim b given e q = subst (λ (s : State). HasStopped s.tokens lim b given) (sym e) q
+kept_by (doc_faults.TextLong n) old new lim b given e q = subst (λ (s : State). HasStopped s.tokens lim b given) (sym e) q
+kept_by (doc_faults.TooLong n) old new lim b given e q = subst (λ (s : State). HasStopped s.tokens lim b given) (sym e) q
 
 -- a new reader
 pub stands_new : (h : ReaderView) (lim : Limits) → h.limits ≡ lim → h.state ≡ start → StandsFor h.carry [] [] → h.place ≡ 0 → h.count ≡ 0 → h.refused ≡ None → h.finished ≡ false → h.end_waits ≡ false → Stands h lim [] false []
@@ -135,10 +135,10 @@ stands_still h lim b more given n s =
     by (Some f) n q k = took_more h lim b more given f (q, k)
 
 -- memory ran out behind the piece, and the tokens that wait are those before it
-pub stands_lost : (old new : ReaderView) (lim : Limits) (b more : List ℕ) (given : List Token) → old.refused ≡ None → new.limits ≡ lim → new.finished ≡ false → new.end_waits ≡ false → new.refused ≡ Some Memory → new.state.tokens ≡ old.state.tokens → Stands old lim b false given → Stands new lim (b ++ more) false given
+pub stands_lost : (old new : ReaderView) (lim : Limits) (b more : List ℕ) (given : List Token) → old.refused ≡ None → new.limits ≡ lim → new.finished ≡ false → new.end_waits ≡ false → new.refused ≡ Some doc_faults.Memory → new.state.tokens ≡ old.state.tokens → Stands old lim b false given → Stands new lim (b ++ more) false given
 stands_lost old new lim b more given none l f e refused tokens s =
     let r = reading_of old lim b given none s in
-    let lost : HasLost old.state.tokens lim (b ++ more) given = (took_more old lim b more given Memory (record { chars = r.chars; read = all_read old lim b given r }, tt)).0 in
+    let lost : HasLost old.state.tokens lim (b ++ more) given = (took_more old lim b more given doc_faults.Memory (record { chars = r.chars; read = all_read old lim b given r }, tt)).0 in
     stands_open new lim (b ++ more) given l f e
     (subst (λ o. GoesOnBy o new lim (b ++ more) given) (sym refused) (subst (λ ts. HasLost ts lim (b ++ more) given) (sym tokens) lost))
     (subst (λ o. IsFault o lim (b ++ more) false) (sym refused) tt)
@@ -182,14 +182,14 @@ module _ (h : ReaderView) (ts rest : List Said) (first : h.state.tokens ≡ ts +
 
   goes_taken : (o : Option DocFault) → GoesOnBy o h lim b given → GoesOnBy o (with_tokens h rest) lim b (given ++ map given_token ts)
   goes_taken None q = reading_taken q
-  goes_taken (Some Memory) q = record { chars = q.chars; read = read_taken q.chars q.read }
-  goes_taken (Some (Utf8 n)) q = stopped_taken q
-  goes_taken (Some (Syntax n)) q = stopped_taken q
-  goes_taken (Some (Truncated n)) q = stopped_taken q
-  goes_taken (Some (Depth n)) q = stopped_taken q
-  goes_taken (Some (NameLong n)) q = stopped_taken q
-  goes_taken (Some (TextLong n)) q = stopped_taken q
-  goes_taken (Some (TooLong n)) q = stopped_taken q
+  goes_taken (Some doc_faults.Memory) q = record { chars = q.chars; read = read_taken q.chars q.read }
+  goes_taken (Some (doc_faults.Utf8 n)) q = stopped_taken q
+  goes_taken (Some (doc_faults.Syntax n)) q = stopped_taken q
+  goes_taken (Some (doc_faults.Truncated n)) q = stopped_taken q
+  goes_taken (Some (doc_faults.Depth n)) q = stopped_taken q
+  goes_taken (Some (doc_faults.NameLong n)) q = stopped_taken q
+  goes_taken (Some (doc_faults.TextLong n)) q = stopped_taken q
+  goes_taken (Some (doc_faults.TooLong n)) q = stopped_taken q
 
   on_taken : (ended : Bool) → ReaderGoesOn ended h lim b given → ReaderGoesOn ended (with_tokens h rest) lim b (given ++ map given_token ts)
   on_taken true q = tt
@@ -262,14 +262,14 @@ module _ (h : ReaderView) (ts : List Said) (lim : Limits) (b : List ℕ) (given 
 
   goes_put : (o : Option DocFault) → GoesOnBy o h lim b (given ++ map given_token ts) → GoesOnBy o (with_tokens h (ts ++ h.state.tokens)) lim b given
   goes_put None q = reading_put q
-  goes_put (Some Memory) q = record { chars = q.chars; read = read_put q.chars q.read }
-  goes_put (Some (Utf8 n)) q = stopped_put q
-  goes_put (Some (Syntax n)) q = stopped_put q
-  goes_put (Some (Truncated n)) q = stopped_put q
-  goes_put (Some (Depth n)) q = stopped_put q
-  goes_put (Some (NameLong n)) q = stopped_put q
-  goes_put (Some (TextLong n)) q = stopped_put q
-  goes_put (Some (TooLong n)) q = stopped_put q
+  goes_put (Some doc_faults.Memory) q = record { chars = q.chars; read = read_put q.chars q.read }
+  goes_put (Some (doc_faults.Utf8 n)) q = stopped_put q
+  goes_put (Some (doc_faults.Syntax n)) q = stopped_put q
+  goes_put (Some (doc_faults.Truncated n)) q = stopped_put q
+  goes_put (Some (doc_faults.Depth n)) q = stopped_put q
+  goes_put (Some (doc_faults.NameLong n)) q = stopped_put q
+  goes_put (Some (doc_faults.TextLong n)) q = stopped_put q
+  goes_put (Some (doc_faults.TooLong n)) q = stopped_put q
 
   on_put : (ended : Bool) → ReaderGoesOn ended h lim b (given ++ map given_token ts) → ReaderGoesOn ended (with_tokens h (ts ++ h.state.tokens)) lim b given
   on_put true q = tt
@@ -328,14 +328,14 @@ stands_end_refused h lim b given n s =
 
     by : (o : Option DocFault) → (o ≡ None → ⊥) → GoesOnBy o h lim b given → IsFault o lim b false → IsFault o lim b true × GivesBy o lim b true (given ++ (map given_token h.state.tokens ++ []))
     by None n q k = absurd (n refl)
-    by (Some Memory) n q k = (tt, gives_more h.state.tokens lim b q.chars true given q.read)
-    by (Some (Utf8 m)) n q k = stopped (Utf8 m) q k
-    by (Some (Syntax m)) n q k = stopped (Syntax m) q k
-    by (Some (Truncated m)) n q k = stopped (Truncated m) q k
-    by (Some (Depth m)) n q k = stopped (Depth m) q k
-    by (Some (NameLong m)) n q k = stopped (NameLong m) q k
-    by (Some (TextLong m)) n q k = stopped (TextLong m) q k
-    by (Some (TooLong m)) n q k = stopped (TooLong m) q k
+    by (Some doc_faults.Memory) n q k = (tt, gives_more h.state.tokens lim b q.chars true given q.read)
+    by (Some (doc_faults.Utf8 m)) n q k = stopped (doc_faults.Utf8 m) q k
+    by (Some (doc_faults.Syntax m)) n q k = stopped (doc_faults.Syntax m) q k
+    by (Some (doc_faults.Truncated m)) n q k = stopped (doc_faults.Truncated m) q k
+    by (Some (doc_faults.Depth m)) n q k = stopped (doc_faults.Depth m) q k
+    by (Some (doc_faults.NameLong m)) n q k = stopped (doc_faults.NameLong m) q k
+    by (Some (doc_faults.TextLong m)) n q k = stopped (doc_faults.TextLong m) q k
+    by (Some (doc_faults.TooLong m)) n q k = stopped (doc_faults.TooLong m) q k
 
 -- with a whole document
 pub stands_end_whole : (h : ReaderView) (lim : Limits) (b : List ℕ) (given : List Token) → h.refused ≡ None → h.carry.bytes ≡ [] → is_whole h.state ≡ true → Stands h lim b false given → Stands (record h { finished = true; end_waits = true }) lim b true given
@@ -362,10 +362,10 @@ stands_end_short h lim b given f e ends s =
     let q = elim ends as (λ _. FaultIs lim b true (Some f) × SaysEnd f) [
       | inl c ↦
           let place : size r.chars ≡ h.carry.seen - length h.carry.bytes = omega (arith, stands_place lim b h.carry.bytes state kept, r.stream.seen) in
-          let is : Utf8 (size r.chars) ≡ f = ap Utf8 place ∙ sym c.1 in
+          let is : doc_faults.Utf8 (size r.chars) ≡ f = ap doc_faults.Utf8 place ∙ sym c.1 in
           (subst (λ g. FaultIs lim b true (Some g)) is (within_limit r.within (end_cut lim b h.carry.bytes state kept (λ n. let z : length h.carry.bytes ≡ 0 = ap length n in let some = c.0 in absurd (omega (arith, z, some))))), subst SaysEnd is tt)
       | inr c ↦
-          let is : Truncated (length b) ≡ f = ap Truncated (sym r.count) ∙ sym c.2 in
+          let is : doc_faults.Truncated (length b) ≡ f = ap doc_faults.Truncated (sym r.count) ∙ sym c.2 in
           (subst (λ g. FaultIs lim b true (Some g)) is (within_limit r.within (end_short lim b state (subst (λ l. Kept lim b l state) c.0 kept) c.1)), subst SaysEnd is tt)
     ] in
     let gives = gives_open h.state.tokens lim b r.chars true given (all_read h lim b given r) (longest_so_far lim b h.carry.bytes state kept r.within) (no_document lim b f true q.0) in
@@ -374,6 +374,6 @@ stands_end_short h lim b given f e ends s =
     record { limits = s.limits; finished = refl; fault = both.0; gives = both.1; goes_on = tt }
   where
     by : (f : DocFault) → SaysEnd f → FaultIs lim b true (Some f) → Gives lim b true (given ++ waiting h) → IsFault (Some f) lim b true × GivesBy (Some f) lim b true (given ++ waiting h)
-    by (Utf8 m) w k g = (k, g)
-    by (Truncated m) w k g = (k, g)
+    by (doc_faults.Utf8 m) w k g = (k, g)
+    by (doc_faults.Truncated m) w k g = (k, g)
     by other w k g = absurd w

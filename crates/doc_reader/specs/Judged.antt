@@ -2,7 +2,7 @@
 -- What reading a text answers (this project's).
 use Rattle.std.specs.Prelude.{ℕ, ◌≡◌, ◌+◌, List, ◌∷◌, ◌++◌, Result, Ok, Err}
 use Rattle.gcx_base.specs.declared.limits.Limits.{Limits}
-use Rattle.gcx_model.specs.Faults.{Refusal as Fault, size}
+use Rattle.gcx_model.specs.Faults.{DocumentRefusal as Fault, size}
 use Rattle.gcx_model.specs.Tree as tree
 use Rattle.doc_laws.specs.Machine.{State}
 use Rattle.doc_laws.specs.Judging.{judged, judged_steps}
@@ -11,7 +11,7 @@ use Rattle.doc_machine.specs.declared.stop.Stop.TheVariants.{Refused, Memory}
 use Rattle.doc_machine.specs.Refusals.{fault}
 
 -- The characters before the one that is refused are read, and the tokens of the whole tags in them wait.
-pub record Refuses (lim : Limits) (place : ℕ) (old : State) (cs : List ℕ) (f : Fault) (waiting : List tree.Token) : Type 0 where
+pub record Refuses (lim : Limits) (place : ℕ) (old : State) (cs : List ℕ) (f : Fault) (waiting : List tree.TreeToken) : Type 0 where
   pub front : List ℕ
   pub at : ℕ
   pub rest : List ℕ
@@ -22,7 +22,7 @@ pub record Refuses (lim : Limits) (place : ℕ) (old : State) (cs : List ℕ) (f
   pub waits : waiting ≡ state.tokens
 
 -- Some characters are read, and the tokens of the whole tags in them wait.
-pub record ReadsFront (lim : Limits) (place : ℕ) (old : State) (cs : List ℕ) (waiting : List tree.Token) : Type 0 where
+pub record ReadsFront (lim : Limits) (place : ℕ) (old : State) (cs : List ℕ) (waiting : List tree.TreeToken) : Type 0 where
   pub front : List ℕ
   pub rest : List ℕ
   pub state : State

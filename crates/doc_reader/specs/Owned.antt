@@ -1,7 +1,7 @@
 -- These definitions follow the code; no public clause speaks of them.
 -- What contracts see of a reader whose tokens are owned, and what its fields keep.
 use Rattle.std.specs.Prelude.{◌≡◌, List, [], ◌++◌, map}
-use Rattle.gcx_model.specs.Tree.{Token as Said}
+use Rattle.gcx_model.specs.Tree.{TreeToken as Said}
 use Rattle.doc_reader.specs.Standing.{ReaderView, with_tokens, given_token, said_of}
 use Rattle.doc_reader.specs.declared.reader.Reader.TheInside.{Inside}
 

@@ -4,7 +4,7 @@ use Rattle.std.specs.Prelude.{ℕ, ◌≡◌, ◌+◌, ◌-◌, ◌<◌, ◌⊎�
 use Rattle.gcx_base.specs.declared.limits.Limits.{Limits}
 use Rattle.gcx_model.specs.Faults.{size}
 use Rattle.gcx_model.specs.declared.fault.DocFault.{DocFault}
-use Rattle.gcx_model.specs.declared.fault.DocFault.TheVariants.{Utf8, Syntax, Truncated}
+use Rattle.gcx_model.specs.declared.fault.DocFault.TheVariants as doc_faults
 use Rattle.doc_chars.specs.declared.chars.CharFault.{CharFault}
 use Rattle.doc_chars.specs.declared.chars.CharFault.TheVariants.{Utf8 as not_utf8, Char as no_char}
 use Rattle.doc_laws.specs.Machine.{State, is_whole}
@@ -15,8 +15,8 @@ use Rattle.doc_reader.specs.Judged.{Judged}
 use Rattle.doc_reader.specs.Standing.{ReaderView, IsFault, GoesOnBy}
 
 abbrev pub char_fault : CharFault → DocFault
-char_fault (not_utf8 k) = Utf8 k
-char_fault (no_char k) = Syntax k
+char_fault (not_utf8 k) = doc_faults.Utf8 k
+char_fault (no_char k) = doc_faults.Syntax k
 
 -- the characters were read up to this place, or the machine stopped in them
 abbrev pub ReadTo : Result ℕ Stop → Limits → ℕ → State → List ℕ → State → Type 0
@@ -39,5 +39,5 @@ pub record IsSame (old new : ReaderView) : Type 0 where
 abbrev pub Ends : {T : Type 0} → Result T DocFault → ReaderView → Type 0
 Ends (Ok x) h = (h.carry.bytes ≡ []) × (is_whole h.state ≡ true)
 Ends (Err f) h =
-    ((0 < length h.carry.bytes) × (f ≡ Utf8 (h.carry.seen - length h.carry.bytes)))
-    ⊎ ((h.carry.bytes ≡ []) × (is_whole h.state ≡ false) × (f ≡ Truncated h.count))
+    ((0 < length h.carry.bytes) × (f ≡ doc_faults.Utf8 (h.carry.seen - length h.carry.bytes)))
+    ⊎ ((h.carry.bytes ≡ []) × (is_whole h.state ≡ false) × (f ≡ doc_faults.Truncated h.count))

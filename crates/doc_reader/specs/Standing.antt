@@ -3,12 +3,12 @@ use Rattle.std.specs.Prelude.{ℕ, zero, suc, ◌≡◌, ◌≤◌, Bool, true, 
 use lib.Utf8.{scalars, encodes}
 use Rattle.gcx_base.specs.declared.limits.Limits.{Limits}
 use Rattle.gcx_model.specs.Document.{Nodes, IsDocument, tokens}
-use Rattle.gcx_model.specs.Tree.{Token as Said}
+use Rattle.gcx_model.specs.Tree.{TreeToken as Said}
 use Rattle.gcx_model.specs.Grammar.{SpellsDocument}
 use Rattle.gcx_model.specs.Faults.{Clean, FaultIs, size}
 use Rattle.gcx_model.specs.Seen.{IsLongest, SeenIs}
 use Rattle.gcx_model.specs.declared.fault.DocFault.{DocFault}
-use Rattle.gcx_model.specs.declared.fault.DocFault.TheVariants.{Memory}
+use Rattle.gcx_model.specs.declared.fault.DocFault.TheVariants as doc_faults
 use Rattle.doc_chars.specs.Stream.{Carry, StandsFor}
 use Rattle.doc_laws.specs.Machine.{State}
 use Rattle.doc_laws.specs.States.{Fronts}
@@ -82,13 +82,13 @@ pub record GivesMore (lim : Limits) (b : List ℕ) (ended : Bool) (ts : List Tok
 -- all of them, or the first of them where memory ran out
 abbrev pub GivesBy : Option DocFault → Limits → List ℕ → Bool → List Token → Type 0
 GivesBy None lim b ended ts = Gives lim b ended ts
-GivesBy (Some Memory) lim b ended ts = GivesMore lim b ended ts
+GivesBy (Some doc_faults.Memory) lim b ended ts = GivesMore lim b ended ts
 GivesBy (Some f) lim b ended ts = Gives lim b ended ts
 
 -- the bytes have no fault, or this one, or memory ran out
 abbrev pub IsFault : Option DocFault → Limits → List ℕ → Bool → Type 0
 IsFault None lim b ended = FaultIs lim b ended None
-IsFault (Some Memory) lim b ended = Unit {0}
+IsFault (Some doc_faults.Memory) lim b ended = Unit {0}
 IsFault (Some f) lim b ended = FaultIs lim b ended (Some f)
 
 -- the same of an answer
@@ -152,7 +152,7 @@ pub record HasLost (waits : List Said) (lim : Limits) (b : List ℕ) (given : Li
 
 abbrev pub GoesOnBy : Option DocFault → ReaderView → Limits → List ℕ → List Token → Type 0
 GoesOnBy None h lim b given = IsReading h lim b given
-GoesOnBy (Some Memory) h lim b given = HasLost h.state.tokens lim b given
+GoesOnBy (Some doc_faults.Memory) h lim b given = HasLost h.state.tokens lim b given
 GoesOnBy (Some f) h lim b given = HasStopped h.state.tokens lim b given
 
 -- what an open reader goes on from; after finish nothing goes on
@@ -180,7 +180,7 @@ taken None = []
 taken (Some t) = t ∷ []
 
 -- the answer is the same, and whether finish was called
-pub record Keeps (old new : ReaderView) : Type 0 where
+pub record KeepsAnswer (old new : ReaderView) : Type 0 where
   pub finished : new.finished ≡ old.finished
   pub answer : answer_of new ≡ answer_of old
 

@@ -1,5 +1,5 @@
 ghost use Rattle.std.specs.Prelude.{◌≡◌, ◌+◌, ◌<◌, ◌≤◌, ◌++◌, [], ℕ, List, length, take, drop, map, Bool, false, true, Some, OnOk, is_some};
-ghost use Rattle.gcx_model.specs.declared.fault.DocFault.TheVariants.{Memory as out_of_memory};
+ghost use Rattle.gcx_model.specs.declared.fault.DocFault.TheVariants as doc_faults;
 ghost use Rattle.doc_tokens.specs.Parts.{AreLent};
 ghost use Rattle.doc_reader.specs.Piece.{char_fault as fault_of_char};
 
@@ -195,7 +195,7 @@ impl LentReader {
 
     /// Refuses all that follows, for want of memory.
     pub(crate) fn refuse(&mut self)
-        ensures { self.new ≡ record self.old { refused = Some out_of_memory } }
+        ensures { self.new ≡ record self.old { refused = Some doc_faults.Memory } }
     {
         self.refused = Some(DocFault::Memory);
     }

@@ -114,7 +114,7 @@ fn ended_token(ended: bool) -> Option<Token>
 }
 
 impl Reader {
-    ghost use Rattle.doc_reader.specs.Standing.{Stands, IsOpen, IsDone, IsRefused, Answers, Takes, Keeps, Accepted, waiting, answer_of};
+    ghost use Rattle.doc_reader.specs.Standing.{Stands, IsOpen, IsDone, IsRefused, Answers, Takes, KeepsAnswer, Accepted, waiting, answer_of};
 
     /// A reader that has read nothing. The limits are at most 1,000 elements and 1,099,511,627,776 bytes.
     pub fn new(alloc: Global, limits: Limits) -> Reader
@@ -150,7 +150,7 @@ impl Reader {
         ensures takes { Takes result (waiting self.old) (waiting self.new) }
         ensures stands { (lim : Limits) (b : List ℕ) (ended : Bool) (given : List Token) → Stands self.old lim b ended given
             → Stands self.new lim b ended (given ++ taken result) }
-        ensures keeps { Keeps self.old self.new }
+        ensures keeps { KeepsAnswer self.old self.new }
     {
         match self.waits.pop_front() {
             Some(token) => Some(token),

@@ -6,7 +6,7 @@ use Rattle.std.proofs.lemmas.List.{length-map, map-append, drop-drop, drop-take,
 use Rattle.std.proofs.lemmas.List.Sums.{sum_by-append, sum_by-take-drop}
 use Rattle.std.proofs.lemmas.Str.{IsUtf8-nil, IsUtf8-append}
 use Rattle.gcx_base.specs.Name.{IsNameBytes}
-use Rattle.gcx_model.specs.Tree.{Token, Start, Chars, End}
+use Rattle.gcx_model.specs.Tree.{TreeToken, Start, Chars, End}
 use Rattle.gcx_model.specs.Document.{is_blank}
 use Rattle.gcx_model.specs.Fronts.{text_of}
 use Rattle.doc_tokens.specs.declared.lent.Lent.{Lent}
@@ -16,11 +16,11 @@ use Rattle.doc_tokens.specs.Kept.{lent_queue, part_len, AreKept, text_part, unle
 use Rattle.doc_tokens.specs.Tokens.{Queue}
 use Rattle.doc_tokens.proofs.Parts.{parts_same, tokens_same, parts_wider, parts_append, parts_drop, parts_moved, tokens_moved, parts_long, before_cut, after_cut, kept_parts, MayCome, kept_more, queue_more}
 
-abbrev queue_of : (run : List ℕ) (tokens pending : List Token) → Queue
+abbrev queue_of : (run : List ℕ) (tokens pending : List TreeToken) → Queue
 queue_of run tokens pending = record { run = run; tokens = tokens; pending = pending }
 
 -- a queue whose three lists are these
-pub queue_by : (run run' : List ℕ) (tokens tokens' pending pending' : List Token) → run ≡ run' → tokens ≡ tokens' → pending ≡ pending' → queue_of run tokens pending ≡ queue_of run' tokens' pending'
+pub queue_by : (run run' : List ℕ) (tokens tokens' pending pending' : List TreeToken) → run ≡ run' → tokens ≡ tokens' → pending ≡ pending' → queue_of run tokens pending ≡ queue_of run' tokens' pending'
 queue_by run run' tokens tokens' pending pending' r t p = (λ i. queue_of (r i) (t i) (p i))
 
 -- ---- no text and no tokens
@@ -282,18 +282,18 @@ whole_queue bytes lent start taken whole q few enough v =
 -- ---- tokens more, and no text at hand
 
 -- bytes and tokens behind these, and the text at hand then
-record Comes (bytes : List ℕ) (lent : List Lent) (start : ℕ) (new : List ℕ) (behind : List Lent) (next : ℕ) (run : List ℕ) (tokens : List Token) : Type 0 where
+record Comes (bytes : List ℕ) (lent : List Lent) (start : ℕ) (new : List ℕ) (behind : List Lent) (next : ℕ) (run : List ℕ) (tokens : List TreeToken) : Type 0 where
   pub more : List Lent
   pub behind_is : behind ≡ lent ++ more
   pub may : MayCome bytes start new more next
   pub run_is : drop next new ≡ run
   pub tokens_are : map (lent_token new) more ≡ tokens
 
-come_kept : (bytes new : List ℕ) (lent behind : List Lent) (base start next taken whole : ℕ) (run : List ℕ) (tokens : List Token) → AreKept bytes lent base start taken whole → Comes bytes lent start new behind next run tokens → AreKept new behind base next taken whole
+come_kept : (bytes new : List ℕ) (lent behind : List Lent) (base start next taken whole : ℕ) (run : List ℕ) (tokens : List TreeToken) → AreKept bytes lent base start taken whole → Comes bytes lent start new behind next run tokens → AreKept new behind base next taken whole
 come_kept bytes new lent behind base start next taken whole run tokens k c =
     subst (λ l. AreKept new l base next taken whole) (sym c.behind_is) (kept_more bytes new lent c.more base start next taken whole k c.may)
 
-come_queue : (bytes new : List ℕ) (lent behind : List Lent) (base start next taken whole : ℕ) (run : List ℕ) (tokens : List Token) (q : Queue) → AreKept bytes lent base start taken whole → Comes bytes lent start new behind next run tokens → lent_queue bytes lent start taken whole ≡ q
+come_queue : (bytes new : List ℕ) (lent behind : List Lent) (base start next taken whole : ℕ) (run : List ℕ) (tokens : List TreeToken) (q : Queue) → AreKept bytes lent base start taken whole → Comes bytes lent start new behind next run tokens → lent_queue bytes lent start taken whole ≡ q
     → lent_queue new behind next taken whole ≡ record q { run = run; pending = q.pending ++ tokens }
 come_queue bytes new lent behind base start next taken whole run tokens q k c v =
     ap (λ l. lent_queue new l next taken whole) c.behind_is
@@ -431,7 +431,7 @@ module _ (bytes name : List ℕ) (start : ℕ) (run : List ℕ) (text : Bool) (f
 
 -- ---- what each call leaves then
 
-pub record Grown (new : List ℕ) (behind : List Lent) (base next taken whole : ℕ) (run : List ℕ) (tokens : List Token) (q : Queue) : Type 0 where
+pub record Grown (new : List ℕ) (behind : List Lent) (base next taken whole : ℕ) (run : List ℕ) (tokens : List TreeToken) (q : Queue) : Type 0 where
   pub kept : AreKept new behind base next taken whole
   pub queue : lent_queue new behind next taken whole ≡ record q { run = run; pending = q.pending ++ tokens }
 
@@ -447,7 +447,7 @@ named_by bytes lent base start taken whole q name new text first end k v t f n e
   end_is = e ∙ ap length n;
 }
 
-grown : (bytes : List ℕ) (lent : List Lent) (base start taken whole : ℕ) (q : Queue) (name new : List ℕ) (behind : List Lent) (next : ℕ) (run : List ℕ) (tokens : List Token) → AreKept bytes lent base start taken whole → lent_queue bytes lent start taken whole ≡ record q { run = unless_blank q.run } → new ≡ bytes ++ name → Comes bytes lent start (bytes ++ name) behind next run tokens
+grown : (bytes : List ℕ) (lent : List Lent) (base start taken whole : ℕ) (q : Queue) (name new : List ℕ) (behind : List Lent) (next : ℕ) (run : List ℕ) (tokens : List TreeToken) → AreKept bytes lent base start taken whole → lent_queue bytes lent start taken whole ≡ record q { run = unless_blank q.run } → new ≡ bytes ++ name → Comes bytes lent start (bytes ++ name) behind next run tokens
     → Grown new behind base next taken whole run tokens q
 grown bytes lent base start taken whole q name new behind next run tokens k v n c =
     let comes = subst (λ b. Comes bytes lent start b behind next run tokens) (sym n) c in

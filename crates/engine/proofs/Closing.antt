@@ -10,7 +10,7 @@ use Rattle.gcx_model.specs.Tree.{Tree}
 use Rattle.doc_reader.specs.Standing.{Answers, IsFault, answer_by, said_of}
 use Rattle.engine.specs.View.{EngineView}
 use Rattle.engine.specs.Engine.{GrewBy, Kept, Lost, OnAnswer, StandsOf, TraceGrewBy, TraceGrewWithin}
-use Rattle.engine.specs.Actors.{all_of, bytes_at}
+use Rattle.run_part.specs.Actors.{all_of, bytes_at}
 use Rattle.engine.proofs.Courses.{answer_of_fault, grew_none, on_answer, settled_by}
 use Rattle.engine.proofs.Ending.{all_taken_back, nothing_held}
 use Rattle.engine.proofs.TellingCalls.{trace_none, trace_of}

@@ -5,7 +5,7 @@ use Rattle.std.proofs.lemmas.List.{append-nil, length-append}
 use Rattle.gcx_base.specs.declared.limits.Limits.{Limits}
 use Rattle.gcx_model.specs.declared.fault.DocFault.{DocFault}
 use Rattle.gcx_model.specs.declared.fault.DocFault.TheVariants.{Utf8, Syntax, Truncated, Depth, NameLong, TextLong, TooLong, Memory}
-use Rattle.gcx_model.specs.Tree.{Tree, Token as Said}
+use Rattle.gcx_model.specs.Tree.{Tree, TreeToken as Said}
 use Rattle.gcx_model.specs.Core.{PlanTree}
 use Rattle.gcx_model.specs.PlanView.{plan_tree}
 use Rattle.gcx_model.specs.Run.{bytes_of, bytes_written}
@@ -13,14 +13,14 @@ use Rattle.gcx_model.specs.Seen.{SeenIs, seen_tree}
 use Rattle.doc_laws.proofs.Found.{found_seen}
 use Rattle.doc_laws.proofs.Growing.{seen_more}
 use Rattle.doc_laws.proofs.LastTag.{seen_one}
-use Rattle.doc_reader.specs.Standing.{ReaderView, Stands, Keeps, IsFault, IsRefused, Answers, answer_by, said_of}
+use Rattle.doc_reader.specs.Standing.{ReaderView, Stands, KeepsAnswer, IsFault, IsRefused, Answers, answer_by, said_of}
 use Rattle.doc_reader.proofs.Standings.{stands_still}
 use Rattle.engine.specs.View.{EngineView}
 use Rattle.engine.specs.Engine.{GrewBy, GrewWithin, Kept, KeepsMost, Lost, OnAnswer, OnRefusal, PartsStand, Settles, StandsOf, StandsSome}
 use Rattle.engine.specs.Going.{Breaks, FedAll, GoesOn}
-use Rattle.engine.specs.Actors.{all_of, bytes_at}
+use Rattle.run_part.specs.Actors.{all_of, bytes_at}
 use Rattle.engine.proofs.Nothing.{none_within}
-use Rattle.engine.proofs.Writing.{all_is, bytes_front}
+use Rattle.run_part.proofs.Writing.{all_is, bytes_front}
 use Rattle.engine.proofs.Seeing.{all_given, front_leads}
 use Rattle.engine.proofs.Waiting.{on_none, from_none, refusal_map}
 
@@ -41,7 +41,7 @@ same_refusal None (Some g) e = absurd (no_answer g e)
 same_refusal (Some f) None e = absurd (no_answer f (sym e))
 same_refusal (Some f) (Some g) e = ap Some (same_fault f g e)
 
-pub kept_refusal : (r q : ReaderView) → Keeps r q → q.refused ≡ r.refused
+pub kept_refusal : (r q : ReaderView) → KeepsAnswer r q → q.refused ≡ r.refused
 kept_refusal r q k = same_refusal q.refused r.refused k.answer
 
 pub fault_of_answer : (o : Option DocFault) (a : Result ⊤ DocFault) (lim : Limits) (b : List ℕ) (ended : Bool) → a ≡ answer_by o → Answers a lim b ended → IsFault o lim b ended
@@ -59,7 +59,7 @@ on_answer (Some f) a A B e h = subst (λ (z : Result ⊤ DocFault). OnAnswer z A
 
 module _ {C : Type 0} (stands : C → Tree → Type 0) (lim : Limits) (b : List ℕ) (was : Bool) (c : List ℕ) (ended : Bool) where
   -- the reader took what was fed, and all tokens that waited then were fed
-  pub fed_to : (old e d : EngineView C) → (s : StandsOf stands lim old b was) → e.plan ≡ old.plan → e.out ≡ old.out → KeepsMost old e → Keeps e.reader d.reader → IsFault e.reader.refused lim c ended
+  pub fed_to : (old e d : EngineView C) → (s : StandsOf stands lim old b was) → e.plan ≡ old.plan → e.out ≡ old.out → KeepsMost old e → KeepsAnswer e.reader d.reader → IsFault e.reader.refused lim c ended
       → d.ended ≡ ended → d.bytes ≡ length c
       → GoesOn stands lim e d c ended s.given → OnRefusal d.refused (Lost lim old d b was c ended) (Kept stands lim old d b was c ended)
   fed_to old e d s plan out until keeps fault closing bytes goes = refusal_map d.refused lost kept goes

@@ -5,7 +5,7 @@ use Rattle.std.proofs.lemmas.List.{map-append}
 use Rattle.gcx_base.specs.declared.limits.Limits.{Limits}
 use Rattle.gcx_model.specs.declared.fault.DocFault.{DocFault}
 use Rattle.gcx_model.specs.Document.{Nodes, tokens, tree_of}
-use Rattle.gcx_model.specs.Tree.{Tree, Token as Said, End}
+use Rattle.gcx_model.specs.Tree.{Tree, TreeToken as Said, End}
 use Rattle.gcx_model.specs.PlanView.{plan_tree}
 use Rattle.gcx_model.specs.Held.{held, sum_given, sum_taken}
 use Rattle.gcx_model.specs.Points.{actions, so_far}
@@ -24,8 +24,8 @@ use Rattle.buf_tree.specs.View.{capped}
 use Rattle.buf_tree.specs.Stands.{seen, told}
 use Rattle.engine.specs.View.{EngineView}
 use Rattle.engine.specs.Engine.{StandsOf}
-use Rattle.engine.specs.Actors.{past_at, all_of}
-use Rattle.engine.proofs.Writing.{all_is}
+use Rattle.run_part.specs.Actors.{past_at, all_of}
+use Rattle.run_part.proofs.Writing.{all_is}
 
 document_tokens : (d : Nodes) → map said_of (reader_tokens d) ≡ tokens d ++ End ∷ []
 document_tokens d = map-append said_of (map given_token (tokens d)) (EndOfDocument ∷ []) ∙ ap (λ (z : List Said). z ++ End ∷ []) (said-map (tokens d))

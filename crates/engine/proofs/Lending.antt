@@ -1,94 +1,34 @@
--- Tokens that are lent by the reader: the first one made owned, or all of them fed together.
-use Rattle.std.proofs.Common.{◌≡◌, ℕ, ◌+◌, ◌≤◌, Bool, List, [], ◌∷◌, ◌++◌, length, take, map, slice_get, Option, Some, None, refl, sym, ap, ◌∙◌, subst, take_at, arith}
-use Rattle.std.proofs.lemmas.List.{length-append, length-map, take-map}
+-- Tokens that are lent by the reader, fed together.
+use Rattle.std.proofs.Common.{◌≡◌, ℕ, Bool, true, List, [], ◌∷◌, ◌++◌, length, map, Option, refl, sym, ap, ◌∙◌, subst, arith}
 use Rattle.gcx_base.specs.declared.limits.Limits.{Limits}
+use Rattle.gcx_model.specs.declared.fault.DocFault.{DocFault}
+use Rattle.gcx_model.specs.Core.{PlanTree}
+use Rattle.gcx_model.specs.Demand.{Line, demand, text_of_lines}
 use Rattle.gcx_model.specs.PlanView.{plan_tree}
 use Rattle.gcx_model.specs.Growth.{Leads}
 use Rattle.gcx_model.specs.Seen.{seen_tree}
-use Rattle.gcx_model.specs.Tree.{Tree, Token as Said, Start, Chars, End, opening}
+use Rattle.gcx_model.specs.Tree.{Tree, TreeToken as Said, opening, grow_all}
 use Rattle.doc_laws.proofs.TreeBounds.{seen_within}
-use Rattle.doc_reader.specs.Standing.{AreLent, Keeps, Lent, LiesWithin, ReaderView, Stands, Token, behind_lent, given_token, lent_next, lent_token, said_of, waiting}
-use Rattle.doc_reader.proofs.Behind.{behind_keeps, behind_stands, behind_waits, one_behind, stands_all, stands_one, waits_all}
+use Rattle.doc_reader.specs.Standing.{KeepsAnswer, ReaderView, Stands, Token, behind_lent, lent_next, said_of, waiting}
+use Rattle.doc_reader.proofs.Behind.{behind_keeps, one_behind, stands_all, stands_one, waits_all}
 use Rattle.doc_reader.proofs.Givings.{said-append}
-use Rattle.engine.specs.View.{ActorsView, EngineView}
-use Rattle.engine.specs.Actors.{Goes, StandAt, all_of}
-use Rattle.engine.specs.Calls.{GoesAlone, TakesLent, TakesNext}
-use Rattle.engine.specs.Engine.{CountsOf, MayLimit, PartsStand}
+use Rattle.run_part.specs.View.{PartView}
+use Rattle.run_part.specs.Actors.{Goes, all_of}
+use Rattle.run_part.specs.Late.{AllCome, IsLow, StandBehind}
+use Rattle.run_part.specs.Part.{ComeBehind, KeepsPart, MayTakeSome, PartBreaks, PartStands, PartTakesSome, PartTakes}
+use Rattle.run_part.specs.Telling.{GrewPart}
+use Rattle.run_part.proofs.PartTaking.{breaks_more}
+use Rattle.run_part.proofs.Telling.{lines_first}
+use Rattle.engine.specs.View.{over_part}
+use Rattle.engine.specs.Calls.{GoesAlone, TakesLent, ToldSome, more_lines}
+use Rattle.engine.specs.Engine.{MayLimit, PartsStand}
 use Rattle.engine.specs.Going.{Breaks, FeedsOn}
-use Rattle.engine.specs.Late.{AllCome, BrokeLate, FedLent, IsLow, MayFeedAll, said_lent}
-use Rattle.engine.proofs.Grouping.{given_come, tree_on}
-use Rattle.engine.proofs.Seeing.{given_grew, given_leads, next_comes, seeing}
-use Rattle.engine.proofs.Writing.{goes_front}
-
--- ---- the next one, made owned
-
--- The first token that is lent is the first that waits, and its name or text lies in the bytes.
-pub record FirstLent (bytes : List ℕ) (first : Lent) (tokens : List Said) : Type 0 where
-  pub rest : List Said
-  pub tokens_are : tokens ≡ lent_token bytes first ∷ rest
-  pub part : LiesWithin 0 (length bytes) bytes first
-
-abbrev lent_in : Lent → Option Lent → Lent
-lent_in d None = d
-lent_in d (Some t) = t
-
-pub first_lent : (lent : List Lent) (bytes : List ℕ) (tokens : List Said) (first : Lent) → Some first ≡ slice_get lent 0 → AreLent lent bytes tokens → FirstLent bytes first tokens
-first_lent [] bytes tokens first e a = absurd (cc)
-first_lent (x ∷ lent) bytes tokens first e a =
-    let same : x ≡ first = sym (ap (lent_in x) e) in
-    record {
-      rest = map (lent_token bytes) lent;
-      tokens_are = sym a.tokens_are ∙ ap (λ (z : Lent). lent_token bytes z ∷ map (lent_token bytes) lent) same;
-      part = subst (λ (z : Lent). LiesWithin 0 (length bytes) bytes z) same a.parts.0;
-    }
-
-some_said : (t : Said) (ts : List Said) → [] ≡ t ∷ ts → ⊥
-some_said t ts e = cc
-
-pub none_lent : (lent : List Lent) (bytes : List ℕ) (us : List Token) → None ≡ slice_get lent 0 → AreLent lent bytes (map said_of us) → us ≡ []
-none_lent [] bytes [] e a = refl
-none_lent [] bytes (u ∷ us) e a = absurd (some_said (said_of u) (map said_of us) a.tokens_are)
-none_lent (x ∷ lent) bytes us e a = absurd (cc)
-
-said_given : (t : Said) → said_of (given_token t) ≡ t
-said_given (Start name) = refl
-said_given (Chars text) = refl
-said_given End = refl
-
--- the first of tokens that say these
-record FirstOf (us : List Token) (t : Said) : Type 0 where
-  pub next : Token
-  pub more : List Token
-  pub is : us ≡ next ∷ more
-  pub says : said_of next ≡ t
-
-same_said : (t u : Said) (ts us : List Said) → t ∷ ts ≡ u ∷ us → t ≡ u
-same_said t u ts us e = cc
-
-first_of : (us : List Token) (t : Said) (rest : List Said) → map said_of us ≡ t ∷ rest → FirstOf us t
-first_of [] t rest e = absurd (some_said t rest e)
-first_of (u ∷ us) t rest e = record { next = u; more = us; is = refl; says = same_said (said_of u) t (map said_of us) rest e }
-
--- it was taken
-pub next_given : (q r : ReaderView) (t : Said) (rest : List Said) (u : Token) → map said_of (lent_next q) ≡ t ∷ rest → u ≡ given_token t → r ≡ behind_lent 1 q → TakesNext q r (Some u)
-next_given q r t rest u first is same =
-    let f = first_of (lent_next q) t rest first in
-    let some : 1 ≤ length (f.next ∷ f.more) = omega arith in
-    let few : 1 ≤ length (lent_next q) = subst (λ (zs : List Token). 1 ≤ length zs) (sym f.is) some in
-    record {
-      next = f.next;
-      says = ap said_of is ∙ (said_given t ∙ sym f.says);
-      takes = behind_waits q 1 few ∙ (ap (λ (zs : List Token). take 1 zs ++ waiting (behind_lent 1 q)) f.is ∙ ap (λ (z : ReaderView). f.next ∷ waiting z) (sym same));
-      stands = λ lim b ended given s.
-          subst (λ (z : ReaderView). Stands z lim b ended (given ++ f.next ∷ [])) (sym same)
-          (subst (λ (zs : List Token). Stands (behind_lent 1 q) lim b ended (given ++ take 1 zs)) f.is (behind_stands q 1 few lim b ended given s));
-    }
+use Rattle.engine.proofs.Seeing.{given_come, given_grew, given_leads, next_comes, seeing, tree_on}
+use Rattle.engine.proofs.TellingOn.{more_append}
 
 -- what taking tokens keeps
-pub keeps_behind : (q r : ReaderView) (count : ℕ) → r ≡ behind_lent count q → Keeps q r
-keeps_behind q r count same = subst (λ (z : ReaderView). Keeps q z) (sym same) (behind_keeps q count)
-
--- ---- all tokens that are lent, fed together
+pub keeps_behind : (q r : ReaderView) (count : ℕ) → r ≡ behind_lent count q → KeepsAnswer q r
+keeps_behind q r count same = subst (λ (z : ReaderView). KeepsAnswer q z) (sym same) (behind_keeps q count)
 
 -- behind the tokens given a document is no deeper than it may be
 low_given : (lim : Limits) → MayLimit lim → (b : List ℕ) (ended : Bool) (r : ReaderView) (given : List Token) → Stands r lim b ended given → IsLow (seen_tree (map said_of given))
@@ -115,74 +55,98 @@ all_come lim l b ended r given s = front_comes lim l b ended (lent_next r) (wait
 pub said_lent_next : (r : ReaderView) (given : List Token) (us : List Said) → us ≡ map said_of (lent_next r) → map said_of (given ++ lent_next r) ≡ map said_of given ++ us
 said_lent_next r given us tokens = said-append given (lent_next r) ∙ ap (λ (ts : List Said). map said_of given ++ ts) (sym tokens)
 
--- the first of those that are lent
-record FrontOf (r : ReaderView) (fed : List Said) (count : ℕ) : Type 0 where
-  pub few : count ≤ length (lent_next r)
-  pub says : map said_of (take count (lent_next r)) ≡ fed
+-- The engine is over this part and this reader, and stands for these tokens.
+module _ {C : Type 0} (stands : C → Tree → Type 0) (lim : Limits) (b : List ℕ) (ended : Bool) (given : List Token) (p : PartView C) (r : ReaderView) (n : ℕ) (o : Option DocFault) (z : Bool)
+    (h : PartsStand stands lim (over_part p r n o z) b ended given) where
+  abbrev ts : List Said
+  ts = map said_of given
 
-front_of : (r : ReaderView) (us fed rest : List Said) → us ≡ map said_of (lent_next r) → us ≡ fed ++ rest → FrontOf r fed (length fed)
-front_of r us fed rest tokens parts =
-    let gs = lent_next r in
-    let all : length gs ≡ length fed + length rest = sym (length-map gs said_of) ∙ (ap length (sym tokens ∙ parts) ∙ length-append fed rest) in
-    record {
-      few = omega arith;
-      says = sym (take-map said_of (length fed) gs) ∙ (ap (take (length fed)) (sym tokens ∙ parts) ∙ take_at fed rest (length fed) refl);
+  abbrev gs : List Token
+  gs = lent_next r
+
+  abbrev pl : PlanTree
+  pl = plan_tree p.plan
+
+  part_stands : PartStands stands p.ahead ts p
+  part_stands = (refl, record { actors = h.actors; counts = h.counts })
+
+  module _ (us : List Said) (tokens : us ≡ map said_of gs) where
+    us_come : ComeBehind ts us
+    us_come = record {
+      may = given_come r lim b ended given h.reader;
+      come = subst (λ (x : List Said). AllCome (seen_tree ts) x) (sym tokens) (all_come lim h.limits b ended r given h.reader);
     }
 
-module _ {C : Type 0} (stands : C → Tree → Type 0) (lim : Limits) (b : List ℕ) (ended : Bool) (given : List Token) where
-  pub parts_may : (old : EngineView C) (lent : List Lent) (bytes : List ℕ) → PartsStand stands lim old b ended given → AreLent lent bytes (map said_of (lent_next old.reader))
-      → MayFeedAll stands (plan_tree old.plan) old.ahead old.actors (map said_of given) (said_lent bytes lent)
-  parts_may old lent bytes p a = record {
-    stand = record { actors = p.actors; counts = p.counts };
-    may = given_come old.reader lim b ended given p.reader;
-    come = subst (λ (ts : List Said). AllCome (seen_tree (map said_of given)) ts) (sym a.tokens_are) (all_come lim p.limits b ended old.reader given p.reader);
-  }
+    all_said : map said_of (given ++ gs) ≡ ts ++ us
+    all_said = said_lent_next r given us tokens
 
-  -- they were fed, and taken from the reader
-  pub lent_feeds : (old d : EngineView C) (us : List Said) → PartsStand stands lim old b ended given → us ≡ map said_of (lent_next old.reader) → TakesLent old.reader d.reader → d.plan ≡ old.plan → d.ahead ≡ old.ahead
-      → FedLent stands (plan_tree old.plan) old.ahead old.actors d.actors (map said_of given) us old.out d.out → FeedsOn stands lim old d b ended given
-  lent_feeds old d us p tokens reader plan ahead f =
-      let gs = lent_next old.reader in
-      let pl = plan_tree old.plan in
-      let ts = map said_of given in
-      let all : ts ++ us ≡ map said_of (given ++ gs) = sym (said_lent_next old.reader given us tokens) in
-      let actors : StandAt stands pl d.actors (seen_tree (map said_of (given ++ gs))) (all_of pl (seen_tree (map said_of (given ++ gs))))
-      = subst (λ (z : List Said). StandAt stands pl d.actors (seen_tree z) (all_of pl (seen_tree z))) all f.stand.actors in
-      let counts : CountsOf pl (map said_of (given ++ gs)) old.ahead d.actors.buffer d.actors.counts = subst (λ (z : List Said). CountsOf pl z old.ahead d.actors.buffer d.actors.counts) all f.stand.counts in
-      record {
-        more = gs;
-        waited = waits_all old.reader ∙ ap (λ (z : ReaderView). gs ++ waiting z) (sym reader);
-        parts = record {
-          limits = p.limits;
-          reader = subst (λ (z : ReaderView). Stands z lim b ended (given ++ gs)) (sym reader) (stands_all old.reader lim b ended given p.reader);
-          actors = subst (λ z. StandAt stands (plan_tree z) d.actors (seen_tree (map said_of (given ++ gs))) (all_of (plan_tree z) (seen_tree (map said_of (given ++ gs))))) (sym plan) actors;
-          counts = subst (λ z. CountsOf (plan_tree z) (map said_of (given ++ gs)) d.ahead d.actors.buffer d.actors.counts) (sym plan)
-              (subst (λ n. CountsOf pl (map said_of (given ++ gs)) n d.actors.buffer d.actors.counts) (sym ahead) counts);
-        };
-        most = f.most;
-        goes = subst (λ (z : List Said). Goes pl (seen_tree ts) (all_of pl (seen_tree ts)) (seen_tree z) (all_of pl (seen_tree z)) old.out d.out) all f.goes;
-      }
+    -- the part may take those that are lent
+    pub part_may : MayTakeSome stands p us
+    part_may = record { ahead = p.ahead; given = ts; of = part_stands; come = us_come }
 
-  -- or memory ran out behind some of them
-  pub lent_breaks : (old d : EngineView C) (us : List Said) → PartsStand stands lim old b ended given → us ≡ map said_of (lent_next old.reader)
-      → BrokeLate (plan_tree old.plan) d.actors (map said_of given) us old.out d.out → Breaks lim old d b ended given
-  lent_breaks old d us p tokens k =
-      let n = length k.fed in
-      let front = front_of old.reader us k.fed k.rest tokens k.parts in
-      let gs = take n (lent_next old.reader) in
-      let pl = plan_tree old.plan in
-      let ts = map said_of given in
-      let all : map said_of (given ++ gs) ≡ ts ++ k.fed = said-append given gs ∙ ap (λ (zs : List Said). ts ++ zs) front.says in
-      let r = behind_lent n old.reader in
-      let taken : Stands r lim b ended (given ++ gs) = behind_stands old.reader n front.few lim b ended given p.reader in
-      let grew : Leads opening (seen_tree (ts ++ k.fed)) = subst (λ (z : List Said). Leads opening (seen_tree z)) all (given_grew r lim b ended (given ++ gs) taken) in
-      record {
-        balance = k.balance;
-        written = λ vs h.
-            let on : Leads (seen_tree (ts ++ k.fed)) (seen_tree vs) = subst (λ (z : List Said). Leads (seen_tree z) (seen_tree vs)) all (given_leads r lim b ended (given ++ gs) taken vs h) in
-            goes_front pl (seen_tree ts) (all_of pl (seen_tree ts)) (seen_tree (ts ++ k.fed)) k.taken (seen_tree vs) old.out d.out k.goes grew on k.there;
-      }
+    -- they were taken from the reader, and fed
+    module _ (q : PartView C) (s : ReaderView) (reader : TakesLent r s) (takes : PartTakes stands p q us) where
+      waits_now : waiting r ≡ gs ++ waiting s
+      waits_now = waits_all r ∙ ap (λ (x : ReaderView). gs ++ waiting x) (sym reader)
+
+      pub lent_feeds : FeedsOn stands lim (over_part p r n o z) (over_part q s n o z) b ended given
+      lent_feeds =
+          let t = takes p.ahead ts part_stands us_come in
+          let behind : StandBehind stands (plan_tree q.plan) q.ahead q.actors (map said_of (given ++ gs))
+          = subst (λ (x : List Said). StandBehind stands (plan_tree q.plan) q.ahead q.actors x) (sym all_said) (subst (λ k. StandBehind stands (plan_tree q.plan) k q.actors (ts ++ us)) (sym t.stand.0) t.stand.1) in
+          record {
+            more = gs;
+            waited = waits_now;
+            parts = record {
+              limits = h.limits;
+              reader = subst (λ (x : ReaderView). Stands x lim b ended (given ++ gs)) (sym reader) (stands_all r lim b ended given h.reader);
+              actors = behind.actors;
+              counts = behind.counts;
+            };
+            most = t.most;
+            goes = subst (λ (x : List Said). Goes pl (seen_tree ts) (all_of pl (seen_tree ts)) (seen_tree x) (all_of pl (seen_tree x)) p.out q.out) (sym all_said) t.goes;
+          }
+
+      -- and told
+      pub lent_told : p.tracing ≡ true → ToldSome pl (seen_tree ts) (waiting r) (waiting s) p.trace q.trace
+      lent_told wanted =
+          let t = takes p.ahead ts part_stands us_come in
+          record {
+            more = gs;
+            waited = waits_now;
+            told = t.told wanted ∙ ap (λ (x : List Said). p.trace ++ text_of_lines (demand pl x (seen_tree ts))) tokens;
+          }
+
+    -- or memory ran out behind some of them
+    module _ (q : PartView C) (takes : PartTakesSome stands p q us) where
+      pub lent_breaks : Breaks lim (over_part p r n o z) (over_part q r n o z) b ended given
+      lent_breaks =
+          let t = takes p.ahead ts part_stands us_come in
+          let x = behind_lent (length gs) r in
+          let taken : Stands x lim b ended (given ++ gs) = stands_all r lim b ended given h.reader in
+          let l : Leads opening (seen_tree (ts ++ us)) = subst (λ (y : List Said). Leads opening (seen_tree y)) all_said (given_grew x lim b ended (given ++ gs) taken) in
+          record {
+            balance = t.balance;
+            written = λ vs seen.
+                let m : Leads (seen_tree (ts ++ us)) (seen_tree vs) = subst (λ (y : List Said). Leads (seen_tree y) (seen_tree vs)) all_said (given_leads x lim b ended (given ++ gs) taken vs seen) in
+                let k : PartBreaks pl ts vs p.out q.out = breaks_more pl ts (ts ++ us) vs p.out q.out t.breaks l m in
+                (k.part, k.rest, k.written, k.grew);
+          }
+
+      pub lent_told_some : p.tracing ≡ true → GrewPart p.trace q.trace (text_of_lines (more_lines pl (seen_tree ts) (waiting r)))
+      lent_told_some wanted =
+          let t = takes p.ahead ts part_stands us_come in
+          let P = seen_tree ts in
+          let rest = waiting (behind_lent (length gs) r) in
+          let part : GrewPart p.trace q.trace (text_of_lines (more_lines pl P gs)) = subst (λ (x : List Said). GrewPart p.trace q.trace (text_of_lines (demand pl x P))) tokens (t.told wanted) in
+          subst (λ (x : List Token). GrewPart p.trace q.trace (text_of_lines (more_lines pl P x))) (sym (waits_all r))
+          (subst (λ (x : List Line). GrewPart p.trace q.trace (text_of_lines x)) (sym (more_append pl P gs rest)) (lines_first p.trace q.trace (more_lines pl P gs) (more_lines pl (grow_all (map said_of gs) P) rest) part))
 
 -- what stays of the engine
-pub lent_alone : {C : Type 0} (old : EngineView C) (actors : ActorsView C) (out : List ℕ) (r : ReaderView) → Keeps old.reader r → actors.buffer.loans ≡ old.actors.buffer.loans → GoesAlone old (record old { reader = r; actors = actors; out = out })
-lent_alone old actors out r keeps loans = record { rest = refl; keeps = keeps; silent = λ s. record { untold = s.untold; empty = s.empty }; loans = loans }
+pub lent_alone : {C : Type 0} (p q : PartView C) (r s : ReaderView) (n : ℕ) (o : Option DocFault) (z : Bool) → KeepsPart p q → KeepsAnswer r s → GoesAlone (over_part p r n o z) (over_part q s n o z)
+lent_alone {C} p q r s n o z k keeps = record {
+  rest = ap (λ (x : PartView C). over_part x s n o z) k.rest;
+  keeps = keeps;
+  silent = λ i. record { untold = ap (λ (x : PartView C). x.tracing) k.rest ∙ i.untold; empty = k.untold i.untold ∙ i.empty };
+  loans = k.loans;
+}

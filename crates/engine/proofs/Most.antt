@@ -8,7 +8,8 @@ use Rattle.run_words.specs.Writing.{Sinks}
 use Rattle.engine.specs.View.{EngineView}
 use Rattle.engine.specs.declared.report.Ended.{Ended}
 use Rattle.engine.specs.declared.report.Ended.TheVariants as ends
-use Rattle.engine.specs.Engine.{Kept, Lost, MostIs, OnAnswer, Peaks}
+use Rattle.engine.specs.Engine.{Kept, Lost, MostIs, OnAnswer}
+use Rattle.run_part.specs.Counts.{Peaks}
 use Rattle.engine.specs.Runs.{EndsWaiting, UnlessMemory}
 use Rattle.engine.proofs.Answering.{kept_of}
 

@@ -7,7 +7,7 @@ use Rattle.gcx_base.specs.Utf8.{IsCharFront}
 use Rattle.gcx_model.specs.declared.fault.DocFault.{DocFault}
 use Rattle.gcx_model.specs.declared.fault.DocFault.TheVariants.{TooLong}
 use Rattle.gcx_model.specs.Faults.{FaultIs, none_yet, within_limit, before_limit, past_limit}
-use Rattle.gcx_model.specs.Tree.{Token as Said, Start, Chars, End, opening, grow}
+use Rattle.gcx_model.specs.Tree.{TreeToken as Said, Start, Chars, End, opening, grow}
 use Rattle.gcx_model.specs.Growth.{may_all}
 use Rattle.gcx_model.specs.Seen.{SeenIs}
 use Rattle.doc_laws.proofs.TreeBounds.{seen_within}

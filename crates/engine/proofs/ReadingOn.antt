@@ -11,8 +11,8 @@ use Rattle.gcx_model.specs.Seen.{seen_tree}
 use Rattle.doc_reader.specs.Standing.{said_of}
 use Rattle.engine.specs.View.{EngineView}
 use Rattle.engine.specs.Engine.{Balanced, Kept, Lost, OnAnswer, OnFault, StandsOf}
-use Rattle.engine.specs.Actors.{all_of}
-use Rattle.engine.proofs.FeedingOne.{old_balance}
+use Rattle.run_part.specs.Actors.{all_of}
+use Rattle.run_part.proofs.FeedingOne.{old_balance}
 
 on_fault_both : (f : DocFault) {A B X : Type 0} → (A → X) → (B → X) → OnFault f A B → X
 on_fault_both Memory a b h = a h

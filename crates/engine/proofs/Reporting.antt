@@ -15,12 +15,12 @@ use Rattle.doc_laws.proofs.TreeBounds.{seen_within}
 use Rattle.doc_reader.specs.Standing.{said_of}
 use Rattle.buf_tree.specs.View.{capped}
 use Rattle.engine.specs.Engine.{StandsOf}
-use Rattle.engine.specs.Actors.{past_at, all_of}
+use Rattle.run_part.specs.Actors.{past_at, all_of}
 use Rattle.engine.specs.Runs.{Numbers, Reports}
 use Rattle.engine.specs.View.{EngineView}
 use Rattle.engine.specs.declared.report.Report.{Report}
-use Rattle.engine.proofs.RowsHeld.{rows_count}
-use Rattle.engine.proofs.Writing.{all_is}
+use Rattle.run_part.proofs.RowsHeld.{rows_count}
+use Rattle.run_part.proofs.Writing.{all_is}
 
 capped_few : (n : ℕ) → n ≤ 2 ^ 128 - 1 → capped n ≡ n
 capped_few n few = omega arith

@@ -15,16 +15,16 @@ use Rattle.gcx_model.specs.PlanView.{plan_tree}
 use Rattle.gcx_model.specs.Faults.{FaultIs}
 use Rattle.run_words.proofs.Joining.{takes_then, owes_then}
 use Rattle.run_words.proofs.Sourcing.{clean_none, clean_more, on_clean, source_none}
-use Rattle.run_words.specs.Ends.{EndsRun, SettlesBefore, Unread, LastPiece, WritesAll, Reached, ReadFailed, WriteFailed, NoMemory}
+use Rattle.run_words.specs.Ends.{EndsRun, SettlesBefore, Unread, LastPiece, WritesAll, ReachedStop, ReadFailed, WriteFailed, NoMemory}
 use Rattle.run_words.specs.Reading.{SourceGave, ReadsOn}
-use Rattle.run_words.specs.Stops.{Stop, More, End, Fault, IsCalm, is_end}
+use Rattle.run_words.specs.Stops.{Stop, More, EndAnswered, FaultAnswered, IsCalm, is_end}
 use Rattle.run_words.specs.Writing.{Sinks, TakesFront, Traces, TracesFront, StopsAtWrite}
 use Rattle.doc_reader.specs.Standing.{Answers}
 use Rattle.engine.specs.View.{EngineView}
 use Rattle.engine.specs.declared.report.Ended.{Ended}
 use Rattle.engine.specs.declared.report.Ended.TheVariants as ends
 use Rattle.engine.specs.Engine.{IsSilent, IsTold, IsTrace, Kept, Lost, OnAnswer, Settles, StandsOf, Starts, TraceGrewBy, TraceGrewWithin}
-use Rattle.engine.specs.Runs.{Between, EndsWaiting, Ran, StopsInWaiting, TellsBy, TraceBetween, Traced, Silent, ByToken, SomeText, TracedBy, UnlessMemory, WroteWaiting, ended_by, is_traced, run_end, sinks}
+use Rattle.engine.specs.Runs.{Between, EndsWaiting, Ran, StopsInWaiting, TellsBy, TraceBetween, Traced, Silent, ByToken, UnlessMemory, WroteWaiting, ended_by, is_traced, run_end, sinks}
 use Rattle.engine.proofs.Answering.{By, ByOk, ByFault, by, kept_of, lost_of}
 use Rattle.engine.proofs.Courses.{settled_one}
 use Rattle.engine.proofs.Streaming.{bytes_few, stands_written}
@@ -58,29 +58,20 @@ trace_owes true a b c told rest waits t is owes none = (refl, subst (λ (l : Lis
 trace_owes false a b c told rest waits t is owes none = absurd (none_owed b c (subst (λ (l : List ℕ). Owes b c [] l) (none refl) owes))
 
 -- it goes on over a call that fed more bytes, or none
-trace_kept : (t : Traced) (plan : PlanTree) (lim : Limits) (b more : List ℕ) (ended : Bool) (total waits : List ℕ) → TracedBy t plan lim b false total
+trace_kept : (t : Traced) (plan : PlanTree) (lim : Limits) (b more : List ℕ) (ended : Bool) (total waits : List ℕ) → IsTrace plan lim b false total
     → (t ≡ ByToken → TraceGrewBy plan lim b false (b ++ more) ended [] waits)
-    → (rest : List ℕ) × TracedBy t plan lim (b ++ more) ended (total ++ rest) × (is_traced t ≡ true → rest ≡ waits)
+    → (rest : List ℕ) × IsTrace plan lim (b ++ more) ended (total ++ rest) × (is_traced t ≡ true → rest ≡ waits)
 trace_kept ByToken plan lim b more ended total waits is grew =
     let k = grew refl in
     let o = trace_one plan lim b false k.old total k.traced is in
     (k.more, subst (λ (v : List ℕ). IsTrace plan lim (b ++ more) ended (v ++ k.more)) o k.traces, λ e. sym k.grew)
 trace_kept Silent plan lim b more ended total waits is grew =
     let m = traces_more plan lim b more ended total is in (m.0, m.1, λ e. absurd (false≢true e))
-trace_kept SomeText plan lim b more ended total waits is grew = (waits, tt, λ e. refl)
-
--- there is a trace of more bytes
-trace_later : (t : Traced) (plan : PlanTree) (lim : Limits) (b more : List ℕ) (ended : Bool) (total : List ℕ) → TracedBy t plan lim b false total
-    → (rest : List ℕ) × TracedBy t plan lim (b ++ more) ended (total ++ rest)
-trace_later ByToken plan lim b more ended total is = traces_more plan lim b more ended total is
-trace_later Silent plan lim b more ended total is = traces_more plan lim b more ended total is
-trace_later SomeText plan lim b more ended total is = ([], tt)
 
 -- between a turn's writing and the next one's
 tells_none : {C : Type 0} (t : Traced) (e : EngineView C) → TellsBy t e → is_traced t ≡ false → e.trace ≡ []
 tells_none Silent e h isnt = h.empty
 tells_none ByToken e h isnt = absurd (false≢true (sym isnt))
-tells_none SomeText e h isnt = absurd (false≢true (sym isnt))
 
 module _ {C : Type 0} (stands : C → Tree → Type 0) (lim : Limits) (telling : Traced) where
   -- before the first read
@@ -102,11 +93,10 @@ module _ {C : Type 0} (stands : C → Tree → Type 0) (lim : Limits) (telling :
       }
     where
       trace_starts : (t : Traced) → TellsBy t e → TraceBetween (plan_tree e.plan) lim t [] e.trace k.err k.err
-      trace_starts ByToken t = record { told = []; rest = e.trace; took = takes_none k.err; traced = h.traced t.tracing; before = Unread refl refl refl; waits_is = λ e. refl }
+      trace_starts ByToken t = record { told = []; rest = e.trace; took = takes_none k.err; traced = h.traced t; before = Unread refl refl refl; waits_is = λ e. refl }
       trace_starts Silent t =
           let w = h.settled in
           record { told = []; rest = trace_text (plan_tree e.plan) w.tokens; took = refl; traced = (w.tokens, w.seen, refl); before = Unread refl refl refl; waits_is = λ isnt. absurd (false≢true isnt) }
-      trace_starts SomeText t = record { told = []; rest = e.trace; took = takes_none k.err; traced = tt; before = Unread refl refl refl; waits_is = λ e. refl }
 
   module _ (e d : EngineView C) (s0 s : SourceView) (k0 k k1 : Sinks) (h : Between stands lim telling e s0 s k0 k) (same : d ≡ record e { out = d.out; trace = d.trace }) where
     abbrev plan : PlanTree
@@ -138,7 +128,7 @@ module _ {C : Type 0} (stands : C → Tree → Type 0) (lim : Limits) (telling :
       gave = h.gave;
       reads_on = on_clean lim h.pieces More h.clean;
       bytes = stand_now.bytes;
-      ends = subst (λ (z : PlanTree). EndsRun (Settles z lim) (TracedBy telling z lim) lim (is_traced telling) WriteFailed h.pieces More k0 k1) plan_is (
+      ends = subst (λ (z : PlanTree). EndsRun (Settles z lim) (IsTrace z lim) lim (is_traced telling) WriteFailed h.pieces More k0 k1) plan_is (
         tt,
         record {
           wrote = h.written;
@@ -166,14 +156,14 @@ module _ {C : Type 0} (stands : C → Tree → Type 0) (lim : Limits) (telling :
       told_all = traces_on (is_traced telling) k0.err k.err k1.err h.trace.told h.trace.rest e.trace h.trace.took h.trace.waits_is wrote.told still
 
       -- the read failed
-      pub read_fails : (s1 : SourceView) → SourceGave s0 s1 h.pieces Fault → Ran stands lim telling d ends.ReadFault s0 s1 k0 k1
+      pub read_fails : (s1 : SourceView) → SourceGave s0 s1 h.pieces FaultAnswered → Ran stands lim telling d ends.ReadFault s0 s1 k0 k1
       read_fails s1 gave = record {
         pieces = h.pieces;
-        stop = Fault;
+        stop = FaultAnswered;
         gave = gave;
-        reads_on = on_clean lim h.pieces Fault h.clean;
+        reads_on = on_clean lim h.pieces FaultAnswered h.clean;
         bytes = stand_now.bytes;
-        ends = subst (λ (z : PlanTree). EndsRun (Settles z lim) (TracedBy telling z lim) lim (is_traced telling) ReadFailed h.pieces Fault k0 k1) plan_is
+        ends = subst (λ (z : PlanTree). EndsRun (Settles z lim) (IsTrace z lim) lim (is_traced telling) ReadFailed h.pieces FaultAnswered k0 k1) plan_is
             (refl, no_fault, record { settled = total; is = h.settled; wrote = took_all; trace = trace_total; traced = h.trace.traced; told = told_all });
         stand = stand_now;
       }
@@ -182,8 +172,8 @@ module _ {C : Type 0} (stands : C → Tree → Type 0) (lim : Limits) (telling :
         total_now : Settles (plan_tree d.plan) lim b false total
         total_now = subst (λ (z : PlanTree). Settles z lim b false total) plan_is h.settled
 
-        trace_now : TracedBy telling (plan_tree d.plan) lim b false trace_total
-        trace_now = subst (λ (z : PlanTree). TracedBy telling z lim b false trace_total) plan_is h.trace.traced
+        trace_now : IsTrace (plan_tree d.plan) lim b false trace_total
+        trace_now = subst (λ (z : PlanTree). IsTrace z lim b false trace_total) plan_is h.trace.traced
 
         -- what a call that fed these bytes settles beyond the total
         settled_more : (f : EngineView C) (c : List ℕ) (ended : Bool) → Kept stands lim d f b false c ended
@@ -207,7 +197,7 @@ module _ {C : Type 0} (stands : C → Tree → Type 0) (lim : Limits) (telling :
             (call : OnAnswer r (Lost lim d f b false (b ++ piece) (is_end stop)) (Kept stands lim d f b false (b ++ piece) (is_end stop)))
             (traced : telling ≡ ByToken → OnAnswer r (TraceGrewWithin (plan_tree d.plan) lim b false (b ++ piece) (is_end stop) [] f.trace)
             (TraceGrewBy (plan_tree d.plan) lim b false (b ++ piece) (is_end stop) [] f.trace))
-            (exact : Answers r lim (b ++ piece) (is_end stop)) (whole : r ≡ Ok tt → stop ≡ End) (written : u ≡ record f { out = u.out; trace = u.trace })
+            (exact : Answers r lim (b ++ piece) (is_end stop)) (whole : r ≡ Ok tt → stop ≡ EndAnswered) (written : u ≡ record f { out = u.out; trace = u.trace })
             (same_plan : f.plan ≡ d.plan) (counted : f.bytes ≡ length (b ++ piece)) (quiet : is_traced telling ≡ false → f.trace ≡ [])
             (so : EndsWaiting r end f.out f.trace k1 k2) (unsaid : is_traced telling ≡ false → k2.err ≡ k1.err) where
           abbrev pd : PlanTree
@@ -219,7 +209,7 @@ module _ {C : Type 0} (stands : C → Tree → Type 0) (lim : Limits) (telling :
           last_plan : pd ≡ plan_tree u.plan
           last_plan = sym (ap (λ (z : EngineView C). plan_tree z.plan) written ∙ ap (λ z. plan_tree z) same_plan)
 
-          ran : UnlessMemory end (StandsOf stands lim u c (is_end stop)) → EndsRun (Settles pd lim) (TracedBy telling pd lim) lim (is_traced telling) (run_end end) ps stop k0 k2
+          ran : UnlessMemory end (StandsOf stands lim u c (is_end stop)) → EndsRun (Settles pd lim) (IsTrace pd lim) lim (is_traced telling) (run_end end) ps stop k0 k2
               → Ran stands lim telling u end s0 s1 k0 k2
           ran stand said = record {
             pieces = ps;
@@ -227,15 +217,15 @@ module _ {C : Type 0} (stands : C → Tree → Type 0) (lim : Limits) (telling :
             gave = gave;
             reads_on = reads_on;
             bytes = ap (λ (z : EngineView C). z.bytes) written ∙ counted ∙ ap length (sym bytes_are);
-            ends = subst (λ (z : PlanTree). EndsRun (Settles z lim) (TracedBy telling z lim) lim (is_traced telling) (run_end end) ps stop k0 k2) last_plan said;
+            ends = subst (λ (z : PlanTree). EndsRun (Settles z lim) (IsTrace z lim) lim (is_traced telling) (run_end end) ps stop k0 k2) last_plan said;
             stand = subst (λ (l : List ℕ). UnlessMemory end (StandsOf stands lim u l (is_end stop))) (sym bytes_are) stand;
           }
 
           -- memory ran out
-          lost : Lost lim d f b false c (is_end stop) → k2 ≡ k1 → EndsRun (Settles pd lim) (TracedBy telling pd lim) lim (is_traced telling) NoMemory ps stop k0 k2
+          lost : Lost lim d f b false c (is_end stop) → k2 ≡ k1 → EndsRun (Settles pd lim) (IsTrace pd lim) lim (is_traced telling) NoMemory ps stop k0 k2
           lost l still =
               let w = settled_lost f c (is_end stop) l in
-              let t = trace_later telling pd lim b piece (is_end stop) trace_total trace_now in
+              let t = traces_more pd lim b piece (is_end stop) trace_total trace_now in
               let out : TakesFront k0.out k1.out total (total ++ w.0) = front_all k0.out k1.out total w.0 took_all in
               let told : TracesFront (is_traced telling) k0.err k1.err trace_total (trace_total ++ t.0) = trace_front_all (is_traced telling) k0.err k1.err trace_total t.0 told_all in (
                 calm,
@@ -257,12 +247,12 @@ module _ {C : Type 0} (stands : C → Tree → Type 0) (lim : Limits) (telling :
               trace_front_all true x y v rest took = front_all x y v rest took
               trace_front_all false x y v rest took = took
 
-              reached_by : (w t : List ℕ) → Settles pd lim c (is_end stop) w → TracedBy telling pd lim c (is_end stop) t → Reached (Settles pd lim) (TracedBy telling pd lim) ps stop total w trace_total t
+              reached_by : (w t : List ℕ) → Settles pd lim c (is_end stop) w → IsTrace pd lim c (is_end stop) t → ReachedStop (Settles pd lim) (IsTrace pd lim) ps stop total w trace_total t
               reached_by w t settled is = record {
                 settled = subst (λ (l : List ℕ). Settles pd lim l (is_end stop) w) (sym bytes_are) settled;
                 before = behind (Settles pd lim) total total_now;
-                traced = subst (λ (l : List ℕ). TracedBy telling pd lim l (is_end stop) t) (sym bytes_are) is;
-                traced_before = behind (TracedBy telling pd lim) trace_total trace_now;
+                traced = subst (λ (l : List ℕ). IsTrace pd lim l (is_end stop) t) (sym bytes_are) is;
+                traced_before = behind (IsTrace pd lim) trace_total trace_now;
               }
 
           module _ (other : ended_by r ≡ ends.Memory → ⊥) where
@@ -275,14 +265,14 @@ module _ {C : Type 0} (stands : C → Tree → Type 0) (lim : Limits) (telling :
             settled_then : Settles pd lim (joined ps) (is_end stop) (total ++ f.out)
             settled_then = subst (λ (l : List ℕ). Settles pd lim l (is_end stop) (total ++ f.out)) (sym bytes_are) (settled_more f c (is_end stop) kept)
 
-            trace_then : (rest : List ℕ) × TracedBy telling pd lim c (is_end stop) (trace_total ++ rest) × (is_traced telling ≡ true → rest ≡ f.trace)
+            trace_then : (rest : List ℕ) × IsTrace pd lim c (is_end stop) (trace_total ++ rest) × (is_traced telling ≡ true → rest ≡ f.trace)
             trace_then = trace_kept telling pd lim b piece (is_end stop) trace_total f.trace trace_now (λ e. kept_of r (TraceGrewWithin pd lim b false c (is_end stop) [] f.trace) (TraceGrewBy pd lim b false c (is_end stop) [] f.trace) other (traced e))
 
-            traced_then : TracedBy telling pd lim (joined ps) (is_end stop) (trace_total ++ trace_then.0)
-            traced_then = subst (λ (l : List ℕ). TracedBy telling pd lim l (is_end stop) (trace_total ++ trace_then.0)) (sym bytes_are) trace_then.1
+            traced_then : IsTrace pd lim (joined ps) (is_end stop) (trace_total ++ trace_then.0)
+            traced_then = subst (λ (l : List ℕ). IsTrace pd lim l (is_end stop) (trace_total ++ trace_then.0)) (sym bytes_are) trace_then.1
 
             -- all that waits was written
-            writes_all : WroteWaiting f.out f.trace k1 k2 → WritesAll (Settles pd lim) (TracedBy telling pd lim) (is_traced telling) (joined ps) (is_end stop) k0 k2
+            writes_all : WroteWaiting f.out f.trace k1 k2 → WritesAll (Settles pd lim) (IsTrace pd lim) (is_traced telling) (joined ps) (is_end stop) k0 k2
             writes_all w = record {
               settled = total ++ f.out;
               is = settled_then;
@@ -299,7 +289,7 @@ module _ {C : Type 0} (stands : C → Tree → Type 0) (lim : Limits) (telling :
                 let t = trace_owes (is_traced telling) k0.err k1.err k2.err trace_total trace_then.0 f.trace told_all trace_then.2 owes quiet in
                 inr (t.0, takes_then k0.out k1.out k2.out total f.out took_all took, t.1)
 
-            stops_writing : StopsInWaiting f.out f.trace k1 k2 → EndsRun (Settles pd lim) (TracedBy telling pd lim) lim (is_traced telling) WriteFailed ps stop k0 k2
+            stops_writing : StopsInWaiting f.out f.trace k1 k2 → EndsRun (Settles pd lim) (IsTrace pd lim) lim (is_traced telling) WriteFailed ps stop k0 k2
             stops_writing stops = (
               calm,
               record {
@@ -311,39 +301,39 @@ module _ {C : Type 0} (stands : C → Tree → Type 0) (lim : Limits) (telling :
                   settled = settled_then;
                   before = behind (Settles pd lim) total total_now;
                   traced = traced_then;
-                  traced_before = behind (TracedBy telling pd lim) trace_total trace_now;
+                  traced_before = behind (IsTrace pd lim) trace_total trace_now;
                 };
                 stops = stops_then stops;
               },
             )
 
             ends_by : (e : Ended) → WroteWaiting f.out f.trace k1 k2 → By lim c (is_end stop) r → e ≡ ended_by r
-                → UnlessMemory e (StandsOf stands lim u c (is_end stop)) × EndsRun (Settles pd lim) (TracedBy telling pd lim) lim (is_traced telling) (run_end e) ps stop k0 k2
+                → UnlessMemory e (StandsOf stands lim u c (is_end stop)) × EndsRun (Settles pd lim) (IsTrace pd lim) lim (is_traced telling) (run_end e) ps stop k0 k2
             ends_by e w (ByOk ok is clean) by =
-                let at_end : stop ≡ End = whole ok in
+                let at_end : stop ≡ EndAnswered = whole ok in
                 let all = writes_all w in
-                subst (λ (z : Ended). UnlessMemory z (StandsOf stands lim u c (is_end stop)) × EndsRun (Settles pd lim) (TracedBy telling pd lim) lim (is_traced telling) (run_end z) ps stop k0 k2) (sym (by ∙ is))
+                subst (λ (z : Ended). UnlessMemory z (StandsOf stands lim u c (is_end stop)) × EndsRun (Settles pd lim) (IsTrace pd lim) lim (is_traced telling) (run_end z) ps stop k0 k2) (sym (by ∙ is))
                 (stand_then, (at_end, clean_at at_end clean, all_at at_end all))
               where
-                clean_at : stop ≡ End → FaultIs lim c (is_end stop) None → FaultIs lim (joined ps) true None
+                clean_at : stop ≡ EndAnswered → FaultIs lim c (is_end stop) None → FaultIs lim (joined ps) true None
                 clean_at at_end clean = subst (λ (l : List ℕ). FaultIs lim l true None) (sym bytes_are) (subst (λ (z : Stop). FaultIs lim c (is_end z) None) at_end clean)
 
-                all_at : stop ≡ End → WritesAll (Settles pd lim) (TracedBy telling pd lim) (is_traced telling) (joined ps) (is_end stop) k0 k2
-                    → WritesAll (Settles pd lim) (TracedBy telling pd lim) (is_traced telling) (joined ps) true k0 k2
-                all_at at_end all = subst (λ (z : Stop). WritesAll (Settles pd lim) (TracedBy telling pd lim) (is_traced telling) (joined ps) (is_end z) k0 k2) at_end all
+                all_at : stop ≡ EndAnswered → WritesAll (Settles pd lim) (IsTrace pd lim) (is_traced telling) (joined ps) (is_end stop) k0 k2
+                    → WritesAll (Settles pd lim) (IsTrace pd lim) (is_traced telling) (joined ps) true k0 k2
+                all_at at_end all = subst (λ (z : Stop). WritesAll (Settles pd lim) (IsTrace pd lim) (is_traced telling) (joined ps) (is_end z) k0 k2) at_end all
             ends_by e w (ByFault fault is has) by =
-                subst (λ (z : Ended). UnlessMemory z (StandsOf stands lim u c (is_end stop)) × EndsRun (Settles pd lim) (TracedBy telling pd lim) lim (is_traced telling) (run_end z) ps stop k0 k2) (sym (by ∙ is))
+                subst (λ (z : Ended). UnlessMemory z (StandsOf stands lim u c (is_end stop)) × EndsRun (Settles pd lim) (IsTrace pd lim) lim (is_traced telling) (run_end z) ps stop k0 k2) (sym (by ∙ is))
                 (stand_then, (calm, subst (λ (l : List ℕ). FaultIs lim l (is_end stop) (Some fault)) (sym bytes_are) has, writes_all w))
 
           ends_so : EndsWaiting r end f.out f.trace k1 k2 → Ran stands lim telling u end s0 s1 k0 k2
           ends_so (inl (memory, is, still)) =
               ran (subst (λ (z : Ended). UnlessMemory z (StandsOf stands lim u c (is_end stop))) (sym is) tt)
-              (subst (λ (z : Ended). EndsRun (Settles pd lim) (TracedBy telling pd lim) lim (is_traced telling) (run_end z) ps stop k0 k2) (sym is) (lost (lost_of r (Lost lim d f b false c (is_end stop)) (Kept stands lim d f b false c (is_end stop)) memory call) still))
+              (subst (λ (z : Ended). EndsRun (Settles pd lim) (IsTrace pd lim) lim (is_traced telling) (run_end z) ps stop k0 k2) (sym is) (lost (lost_of r (Lost lim d f b false c (is_end stop)) (Kept stands lim d f b false c (is_end stop)) memory call) still))
           ends_so (inr (inl (other, is, wrote))) =
               let q = ends_by other end wrote (by lim c (is_end stop) r other exact) is in ran q.0 q.1
           ends_so (inr (inr (other, is, stops))) =
               ran (subst (λ (z : Ended). UnlessMemory z (StandsOf stands lim u c (is_end stop))) (sym is) (stand_then other))
-              (subst (λ (z : Ended). EndsRun (Settles pd lim) (TracedBy telling pd lim) lim (is_traced telling) (run_end z) ps stop k0 k2) (sym is) (stops_writing other stops))
+              (subst (λ (z : Ended). EndsRun (Settles pd lim) (IsTrace pd lim) lim (is_traced telling) (run_end z) ps stop k0 k2) (sym is) (stops_writing other stops))
 
           pub call_ends : Ran stands lim telling u end s0 s1 k0 k2
           call_ends = ends_so so
@@ -374,9 +364,9 @@ module _ {C : Type 0} (stands : C → Tree → Type 0) (lim : Limits) (telling :
                 told = trace_total;
                 rest = t.0;
                 took = told_all;
-                traced = subst (λ (z : PlanTree). TracedBy telling z lim (joined (h.pieces ++ piece ∷ [])) false (trace_total ++ t.0)) p
-                    (subst (λ (l : List ℕ). TracedBy telling (plan_tree d.plan) lim l false (trace_total ++ t.0)) c_is t.1);
-                before = LastPiece h.pieces piece refl refl (subst (λ (z : PlanTree). TracedBy telling z lim b false trace_total) p trace_now);
+                traced = subst (λ (z : PlanTree). IsTrace z lim (joined (h.pieces ++ piece ∷ [])) false (trace_total ++ t.0)) p
+                    (subst (λ (l : List ℕ). IsTrace (plan_tree d.plan) lim l false (trace_total ++ t.0)) c_is t.1);
+                before = LastPiece h.pieces piece refl refl (subst (λ (z : PlanTree). IsTrace z lim b false trace_total) p trace_now);
                 waits_is = t.2;
               };
             }
@@ -386,23 +376,20 @@ module _ {C : Type 0} (stands : C → Tree → Type 0) (lim : Limits) (telling :
 pub tells_told : {C : Type 0} (t : Traced) (e : EngineView C) → TellsBy t e → t ≡ ByToken → IsTold e
 tells_told ByToken e h is = h
 tells_told Silent e h is = absurd (cc)
-tells_told SomeText e h is = absurd (cc)
 
 pub tells_silent : {C : Type 0} (t : Traced) (e : EngineView C) → TellsBy t e → is_traced t ≡ false → IsSilent e
 tells_silent Silent e h isnt = h
 tells_silent ByToken e h isnt = absurd (false≢true (sym isnt))
-tells_silent SomeText e h isnt = absurd (false≢true (sym isnt))
 
-pub tells_on : {C : Type 0} (t : Traced) (e d : EngineView C) → TellsBy t e → d.tracing ≡ e.tracing → d.ahead ≡ e.ahead → (IsSilent e → IsSilent d)
+pub tells_on : {C : Type 0} (t : Traced) (e d : EngineView C) → TellsBy t e → d.tracing ≡ e.tracing → (IsSilent e → IsSilent d)
     → TellsBy t d
-tells_on Silent e d h same ahead silent = silent h
-tells_on ByToken e d h same ahead silent = record { tracing = same ∙ h.tracing; alone = ahead ∙ h.alone }
-tells_on SomeText e d h same ahead silent = tt
+tells_on Silent e d h same silent = silent h
+tells_on ByToken e d h same silent = same ∙ h
 
 -- the same engine but for what waits of it
 pub tells_written : {C : Type 0} (t : Traced) (e d : EngineView C) → TellsBy t e → d ≡ record e { out = d.out; trace = d.trace } → (IsSilent e → IsSilent d)
     → TellsBy t d
-tells_written t e d h same silent = tells_on t e d h (ap (λ z. z.tracing) same) (ap (λ z. z.ahead) same) silent
+tells_written t e d h same silent = tells_on t e d h (ap (λ z. z.tracing) same) silent
 
 -- no trace waits
 pub wrote_out : (out trace : List ℕ) (o p e : SinkView) → Takes o p out → trace ≡ [] → WroteWaiting out trace (sinks o e) (sinks p e)

@@ -1,11 +1,11 @@
 -- The tokens that a reader gave and those that wait, as tokens that are seen.
-use Rattle.std.proofs.Common.{◌≡◌, ℕ, Bool, true, ◌&&◌, List, [], ◌∷◌, ◌++◌, map, refl, sym, ◌∙◌, ap, subst, arith, append_assoc, Some, None, Option}
+use Rattle.std.proofs.Common.{◌≡◌, ℕ, Bool, true, List, [], ◌∷◌, ◌++◌, map, refl, sym, ◌∙◌, ap, subst, arith, append_assoc, Some, None, Option}
 use Rattle.std.proofs.lemmas.List.{append-nil, map-append}
 use Rattle.std.proofs.lemmas.Bool.{and_parts}
 use Rattle.gcx_base.specs.declared.limits.Limits.{Limits}
 use Rattle.gcx_model.specs.declared.fault.DocFault.{DocFault}
 use Rattle.gcx_model.specs.declared.fault.DocFault.TheVariants.{Utf8, Syntax, Truncated, Depth, NameLong, TextLong, TooLong, Memory}
-use Rattle.gcx_model.specs.Tree.{Tree, Token as Said, opening, grow, grow_all}
+use Rattle.gcx_model.specs.Tree.{Tree, TreeToken as Said, opening, grow}
 use Rattle.gcx_model.specs.Growth.{Leads, may_come, may_all}
 use Rattle.gcx_model.specs.Seen.{SeenIs, seen_tree}
 use Rattle.tree_laws.proofs.Growing.{grow_all-append, leads}
@@ -14,7 +14,8 @@ use Rattle.doc_laws.proofs.Growing.{seen_comes}
 use Rattle.doc_laws.proofs.LastTag.{seen_one}
 use Rattle.doc_reader.specs.Standing.{Token, ReaderView, Stands, Gives, GivesBy, waiting, said_of}
 use Rattle.engine.specs.Engine.{MayLimit}
-use Rattle.engine.specs.Actors.{ComesWithin}
+use Rattle.run_part.specs.Actors.{ComesWithin}
+use Rattle.run_part.specs.Fronts.{may_parts}
 
 -- these tokens are seen, and perhaps more
 pub record Seeing (lim : Limits) (b : List ℕ) (ended : Bool) (ts : List Said) : Type 0 where
@@ -34,13 +35,6 @@ seeing_by (Some (Depth n)) lim b ended ts g = seeing_gives lim b ended ts g
 seeing_by (Some (NameLong n)) lim b ended ts g = seeing_gives lim b ended ts g
 seeing_by (Some (TextLong n)) lim b ended ts g = seeing_gives lim b ended ts g
 seeing_by (Some (TooLong n)) lim b ended ts g = seeing_gives lim b ended ts g
-
-pub may_parts : (ts us : List Said) (P : Tree) → may_all (ts ++ us) P ≡ true → (may_all ts P ≡ true) × (may_all us (grow_all ts P) ≡ true)
-may_parts [] us P c = (refl, c)
-may_parts (t ∷ ts) us P c =
-    let p = and_parts (may_come t P) (may_all (ts ++ us) (grow t P)) c in
-    let q = may_parts ts us (grow t P) p.1 in
-    (ap (λ z. z && may_all ts (grow t P)) p.0 ∙ q.0, q.1)
 
 -- the tree of a front of tokens that are seen
 pub front_leads : (lim : Limits) (b : List ℕ) (ended : Bool) (us more : List Said) → SeenIs lim b ended (us ++ more) → Leads opening (seen_tree us) × Leads (seen_tree us) (seen_tree (us ++ more))
@@ -86,20 +80,6 @@ module _ (r : ReaderView) (lim : Limits) (b : List ℕ) (ended : Bool) (given : 
       comes_within lim l b ended (map said_of given) (said_of t) (map said_of ws ++ all_of_it.rest)
       (subst (λ (z : List Token). SeenIs lim b ended (map said_of given ++ (map said_of z ++ all_of_it.rest))) e seeing_waiting)
 
--- a front of the tokens that were given
-pub earlier_leads : (r : ReaderView) (lim : Limits) (b : List ℕ) (ended : Bool) (given more : List Token) → Stands r lim b ended (given ++ more)
-    → Leads opening (seen_tree (map said_of given)) × Leads (seen_tree (map said_of given)) (seen_tree (map said_of (given ++ more)))
-earlier_leads r lim b ended given more s =
-    let x = seeing r lim b ended (given ++ more) s in
-    let e : map said_of (given ++ more) ++ x.rest ≡ map said_of given ++ (map said_of more ++ x.rest) = ap (λ z. z ++ x.rest) (map-append said_of given more) ∙ append_assoc (map said_of given) (map said_of more) x.rest in
-    let q : SeenIs lim b ended (map said_of given ++ (map said_of more ++ x.rest)) = subst (λ (z : List Said). SeenIs lim b ended z) e x.seen in
-    let c = (may_parts (map said_of given ++ map said_of more) x.rest opening (ap (λ (z : List Said). may_all z opening) (append_assoc (map said_of given) (map said_of more) x.rest) ∙ seen_comes lim b ended _ q)).0 in
-    let p = may_parts (map said_of given) (map said_of more) opening c in (
-      leads (map said_of given) opening p.0,
-      subst (λ (z : List Said). Leads (seen_tree (map said_of given)) (seen_tree z)) (sym (map-append said_of given more))
-          (subst (λ (T : Tree). Leads (seen_tree (map said_of given)) T) (sym (grow_all-append (map said_of given) (map said_of more) opening)) (leads (map said_of more) (seen_tree (map said_of given)) p.1)),
-    )
-
 -- where none waits and memory didn't run out, all that are seen were given
 pub all_by : (o : Option DocFault) (lim : Limits) (b : List ℕ) (ended : Bool) (ts : List Token) → (o ≡ Some Memory → ⊥) → GivesBy o lim b ended ts → SeenIs lim b ended (map said_of ts)
 all_by None lim b ended ts m g = g.seen
@@ -116,3 +96,11 @@ pub all_given : (r : ReaderView) (lim : Limits) (b : List ℕ) (ended : Bool) (g
 all_given r lim b ended given s e m =
     subst (λ (z : List Token). SeenIs lim b ended (map said_of z)) (append-nil given)
     (subst (λ (z : List Token). SeenIs lim b ended (map said_of (given ++ z))) e (all_by r.refused lim b ended (given ++ waiting r) m s.gives))
+
+-- the tree with the next token
+pub tree_on : (given : List Token) (t : Token) → seen_tree (map said_of (given ++ t ∷ [])) ≡ grow (said_of t) (seen_tree (map said_of given))
+tree_on given t = ap seen_tree (map-append said_of given (t ∷ [])) ∙ grow_all-append (map said_of given) (said_of t ∷ []) opening
+
+-- tokens that were given may come
+pub given_come : (r : ReaderView) (lim : Limits) (b : List ℕ) (ended : Bool) (given : List Token) → Stands r lim b ended given → may_all (map said_of given) opening ≡ true
+given_come r lim b ended given s = let x = seeing r lim b ended given s in (may_parts (map said_of given) x.rest opening (seen_comes lim b ended (map said_of given ++ x.rest) x.seen)).0

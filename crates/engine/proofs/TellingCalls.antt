@@ -4,7 +4,7 @@ use Rattle.std.proofs.lemmas.List.{append-nil, map-append}
 use Rattle.gcx_base.specs.declared.limits.Limits.{Limits}
 use Rattle.gcx_model.specs.declared.fault.DocFault.{DocFault}
 use Rattle.gcx_model.specs.declared.fault.DocFault.TheVariants.{Utf8, Syntax, Truncated, Depth, NameLong, TextLong, TooLong, Memory}
-use Rattle.gcx_model.specs.Tree.{Tree, Token as Said, grow_all}
+use Rattle.gcx_model.specs.Tree.{Tree, TreeToken as Said, grow_all}
 use Rattle.gcx_model.specs.Core.{PlanTree}
 use Rattle.gcx_model.specs.PlanView.{plan_tree}
 use Rattle.gcx_model.specs.Seen.{SeenIs, seen_tree}
@@ -18,10 +18,11 @@ use Rattle.doc_reader.proofs.Standings.{stands_still}
 use Rattle.engine.specs.View.{EngineView}
 use Rattle.engine.specs.Engine.{IsTrace, Kept, Lost, OnRefusal, StandsOf, TraceGrewBy, TraceGrewWithin}
 use Rattle.engine.specs.Going.{FedAll, GoesOn}
-use Rattle.engine.specs.Telling.{GrewPart, more_lines}
+use Rattle.engine.specs.Calls.{more_lines}
+use Rattle.run_part.specs.Telling.{GrewPart}
 use Rattle.engine.proofs.Courses.{InPiece}
 use Rattle.engine.proofs.Seeing.{all_by, all_given, all_of_it, seeing_waiting}
-use Rattle.engine.proofs.Telling.{text_append}
+use Rattle.run_part.proofs.Telling.{text_append}
 use Rattle.engine.proofs.Waiting.{from_none, on_none, refusal_map}
 
 -- both hold behind a refusal

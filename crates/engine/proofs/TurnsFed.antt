@@ -5,14 +5,14 @@ use Rattle.std.specs.declared.result.Result.TheVariants.{Ok, Err}
 use Rattle.std.proofs.lemmas.List.{append-nil, length-append, map-append, take-append-drop, take_all}
 use Rattle.std.proofs.lemmas.Bool.{false≢true, and_parts}
 use Rattle.gcx_base.specs.declared.kind.Kind.TheVariants.{Element, Text}
-use Rattle.gcx_model.specs.Tree.{Node, Root, Under, Tree, Token as Said, Start, Chars, End, opening, grow, grow_all}
+use Rattle.gcx_model.specs.Tree.{Node, Root, Under, Tree, TreeToken as Said, Start, Chars, End, opening, grow, grow_all}
 use Rattle.gcx_model.specs.Core.{PlanTree}
 use Rattle.gcx_model.specs.Held.{sum_given}
 use Rattle.gcx_model.specs.Growth.{may_come, may_all, level}
 use Rattle.gcx_model.specs.Turning.{Turn, Feed, Act, Turned, tree_fed, turn, turned}
 use Rattle.doc_reader.specs.Standing.{Token, said_of}
 use Rattle.buf_tree.specs.View.{capped}
-use Rattle.engine.specs.Actors.{ComesWithin, Goes, bytes_at, ActsOneFrom, FeedsEach, MayFeed, StandAt}
+use Rattle.run_part.specs.Actors.{ComesWithin, Goes, bytes_at, ActsOneFrom, FeedsEach, MayFeed, StandAt}
 use Rattle.engine.specs.declared.turns.Course.{Course}
 use Rattle.engine.specs.declared.turns.Turn.{Turn as CodeTurn}
 use Rattle.engine.specs.declared.turns.Turn.TheVariants as code

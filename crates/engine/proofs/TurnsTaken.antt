@@ -4,7 +4,7 @@ use Rattle.std.specs.Prelude.{flat_map}
 use Rattle.std.proofs.lemmas.List.{append-nil, take-append-drop, length-drop}
 use Rattle.std.proofs.lemmas.Bool.{and_parts, lt-ltb, ltb-true}
 use Rattle.std.proofs.lemmas.Grind.{flat_map-append}
-use Rattle.gcx_model.specs.Tree.{Tree, Token as Said, opening, grow, grow_all}
+use Rattle.gcx_model.specs.Tree.{Tree, TreeToken as Said, opening, grow, grow_all}
 use Rattle.gcx_model.specs.Core.{PlanTree}
 use Rattle.gcx_model.specs.Run.{bytes_of}
 use Rattle.gcx_model.specs.Held.{sum_given}
@@ -17,13 +17,13 @@ use Rattle.run_laws.proofs.TurnsReached.{one_turn_more, turns_reach}
 use Rattle.doc_reader.specs.Standing.{said_of}
 use Rattle.buf_tree.specs.View.{capped}
 use Rattle.engine.specs.declared.turns.Course.{Course}
-use Rattle.engine.specs.Actors.{past_at, ComesWithin, Goes, all_of, bytes_at, StandAt}
+use Rattle.run_part.specs.Actors.{past_at, ComesWithin, Goes, all_of, bytes_at, StandAt}
 use Rattle.engine.specs.Turns.{Reaches, Tells, TurnsOn}
 use Rattle.engine.specs.declared.turns.Reached.{Reached}
-use Rattle.engine.proofs.Seeing.{may_parts}
-use Rattle.engine.proofs.Acting.{there}
-use Rattle.engine.proofs.Writing.{bytes_stay, goes_fed, goes_none, goes_on}
-use Rattle.engine.proofs.RowsHeld.{rows_count}
+use Rattle.run_part.specs.Fronts.{may_parts}
+use Rattle.run_part.proofs.Acting.{there}
+use Rattle.run_part.proofs.Writing.{bytes_stay, goes_fed, goes_none, goes_on}
+use Rattle.run_part.proofs.RowsHeld.{rows_count}
 use Rattle.engine.proofs.Reporting.{given_exact, taken_exact}
 
 cons_parts : {X : Type 0} (k : ℕ) (xs : List X) (x : X) (rest : List X) → drop k xs ≡ x ∷ rest → (k < length xs) × (take (suc k) xs ≡ take k xs ++ x ∷ []) × (drop (suc k) xs ≡ rest)

@@ -7,7 +7,7 @@ use Rattle.gcx_model.specs.Document.{Nodes, tokens, tree_of}
 use Rattle.gcx_model.specs.Faults.{Decodes, Clean, FaultIs, within_limit, before_limit, past_limit, FaultWithin, by_character, by_sequence, by_cut, by_end, none_yet, none_whole, fault_of}
 use Rattle.gcx_model.specs.Grammar.{SpellsDocument}
 use Rattle.gcx_model.specs.Seen.{SeenIs}
-use Rattle.gcx_model.specs.Tree.{Token as Said, End}
+use Rattle.gcx_model.specs.Tree.{TreeToken as Said, End}
 use Rattle.tree_laws.specs.Growth.{AllClosed}
 use Rattle.tree_laws.proofs.Documents.{whole_closed}
 use Rattle.doc_laws.specs.Machine.{State, is_whole}

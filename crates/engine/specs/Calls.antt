@@ -1,17 +1,17 @@
 -- What the calls of an engine make, a record or a statement for each (this project's).
-use Rattle.std.specs.Prelude.{◌≡◌, ℕ, Bool, true, false, List, [], ◌∷◌, ◌++◌, length, map, Option, None, Some, Result, ⊤}
+use Rattle.std.specs.Prelude.{◌≡◌, ℕ, Bool, true, false, List, [], ◌++◌, length, map, None, Result, ⊤}
 use Rattle.gcx_base.specs.declared.limits.Limits.{Limits}
 use Rattle.gcx_model.specs.declared.fault.DocFault.{DocFault}
 use Rattle.gcx_model.specs.Tree.{Tree}
 use Rattle.gcx_model.specs.PlanView.{plan_tree}
-use Rattle.gcx_model.specs.Demand.{text_of_lines}
-use Rattle.gcx_model.specs.Points.{actions}
+use Rattle.gcx_model.specs.Core.{PlanTree}
+use Rattle.gcx_model.specs.Demand.{Line, demand, text_of_lines}
 use Rattle.gcx_model.specs.Seen.{seen_tree}
-use Rattle.doc_reader.specs.Standing.{Answers, Keeps, ReaderView, Stands, Token, behind_lent, lent_next, said_of, waiting}
+use Rattle.doc_reader.specs.Standing.{Answers, KeepsAnswer, ReaderView, Token, behind_lent, lent_next, said_of, waiting}
 use Rattle.engine.specs.View.{EngineView}
-use Rattle.engine.specs.Engine.{Balanced, IsSilent, IsTold, Kept, Lost, PartsStand, StandsOf, TraceGrewBy, TraceGrewWithin}
-use Rattle.engine.specs.Going.{Breaks, FeedsOn, FeedsSome, GoesOn}
-use Rattle.engine.specs.Telling.{GrewPart, ToldOne, ToldSome, more_lines}
+use Rattle.engine.specs.Engine.{IsSilent, IsTold, Kept, Lost, PartsStand, StandsOf, TraceGrewBy, TraceGrewWithin}
+use Rattle.engine.specs.Going.{Breaks, FeedsOn, GoesOn}
+use Rattle.run_part.specs.Telling.{GrewPart}
 
 -- ---- a piece, or the end of the document
 
@@ -60,18 +60,6 @@ pub record SameRun {C : Type 0} (old new : EngineView C) : Type 0 where
 
 -- ---- the tokens that wait
 
--- The token that waited first was given. The end of the document is given as an end tag.
-pub record TakesFirst (old new : ReaderView) (token : Token) : Type 0 where
-  pub next : Token
-  pub says : said_of token ≡ said_of next
-  pub takes : waiting old ≡ next ∷ waiting new
-  pub stands : (lim : Limits) (b : List ℕ) (ended : Bool) (given : List Token) → Stands old lim b ended given → Stands new lim b ended (given ++ next ∷ [])
-
--- it was, or none waited
-abbrev pub TakesNext : (old new : ReaderView) → Option Token → Type 0
-TakesNext old new None = (waiting old ≡ []) × (new ≡ old)
-TakesNext old new (Some t) = TakesFirst old new t
-
 -- all that is lent was taken
 abbrev pub TakesLent : (old new : ReaderView) → Type 0
 TakesLent old new = new ≡ behind_lent (length (lent_next old)) old
@@ -88,16 +76,19 @@ FeedsAllFrom stands old new = OfParts stands old (λ lim b ended given. GoesOn s
 abbrev pub FeedsFrom : {C : Type 0} → (C → Tree → Type 0) → (old new : EngineView C) → Type 0
 FeedsFrom stands old new = OfParts stands old (λ lim b ended given. FeedsOn stands lim old new b ended given)
 
--- up to `ahead` of them, and no action taken
-abbrev pub FeedsSomeFrom : {C : Type 0} → (C → Tree → Type 0) → (old new : EngineView C) → (quiet : Bool) → Type 0
-FeedsSomeFrom stands old new quiet = OfParts stands old (λ lim b ended given. FeedsSome stands lim old new b ended given quiet)
-
 -- memory ran out on the way
 abbrev pub BreaksFrom : {C : Type 0} → (C → Tree → Type 0) → (old new : EngineView C) → Type 0
 BreaksFrom stands old new = OfParts stands old (λ lim b ended given. Breaks lim old new b ended given)
 
-abbrev pub BalancesFrom : {C : Type 0} → (C → Tree → Type 0) → (old new : EngineView C) → Type 0
-BalancesFrom stands old new = OfParts stands old (λ lim b ended given. Balanced new)
+-- the lines of tokens fed to P, each with every action that is possible behind it
+abbrev pub more_lines : PlanTree → Tree → List Token → List Line
+more_lines plan P ts = demand plan (map said_of ts) P
+
+-- Of the tokens that waited the first ones were fed to P, and told.
+pub record ToldSome (plan : PlanTree) (P : Tree) (was now : List Token) (before after : List ℕ) : Type 0 where
+  pub more : List Token
+  pub waited : was ≡ more ++ now
+  pub told : after ≡ before ++ text_of_lines (more_lines plan P more)
 
 -- the text of the lines of all tokens that wait, behind those given
 abbrev pub waiting_text : {C : Type 0} → EngineView C → List Token → List ℕ
@@ -111,28 +102,14 @@ TellsWaiting stands on old new = IsTold old → OfParts stands old (λ lim b end
 abbrev pub TellsWithin : {C : Type 0} → (C → Tree → Type 0) → (old new : EngineView C) → Type 0
 TellsWithin stands old new = IsTold old → OfParts stands old (λ lim b ended given. GrewPart old.trace new.trace (waiting_text old given))
 
--- the lines of those that were fed, with the actions behind them
-abbrev pub TellsGroups : {C : Type 0} → (C → Tree → Type 0) → (old new : EngineView C) → Type 0
-TellsGroups stands old new = IsTold old → OfParts stands old (λ lim b ended given.
+-- the lines of those that were fed, with the actions behind each
+abbrev pub TellsTokens : {C : Type 0} → (C → Tree → Type 0) → (old new : EngineView C) → Type 0
+TellsTokens stands old new = IsTold old → OfParts stands old (λ lim b ended given.
     ToldSome (plan_tree old.plan) (seen_tree (map said_of given)) (waiting old.reader) (waiting new.reader) old.trace new.trace)
 
--- of one, if there was one, before any action
-abbrev pub TellsOne : {C : Type 0} → (C → Tree → Type 0) → (old new : EngineView C) → (any : Bool) → Type 0
-TellsOne stands old new any = IsTold old → OfParts stands old (λ lim b ended given.
-    ToldOne (plan_tree old.plan) (seen_tree (map said_of given)) (actions (plan_tree old.plan) (seen_tree (map said_of given)))
-    (waiting old.reader) (waiting new.reader) old.trace new.trace any)
-
--- What feeding tokens leaves as it is. The machine and the output stay, since no action is taken.
-pub record FeedsAlone {C : Type 0} (old new : EngineView C) : Type 0 where
-  pub rest : new ≡ record old { reader = new.reader; actors = new.actors; trace = new.trace }
-  pub machine : new.actors.machine ≡ old.actors.machine
-  pub keeps : Keeps old.reader new.reader
-  pub silent : IsSilent old → IsSilent new
-  pub loans : new.actors.buffer.loans ≡ old.actors.buffer.loans
-
--- the same with actions
+-- What feeding tokens leaves as it is.
 pub record GoesAlone {C : Type 0} (old new : EngineView C) : Type 0 where
   pub rest : new ≡ record old { reader = new.reader; actors = new.actors; out = new.out; trace = new.trace }
-  pub keeps : Keeps old.reader new.reader
+  pub keeps : KeepsAnswer old.reader new.reader
   pub silent : IsSilent old → IsSilent new
   pub loans : new.actors.buffer.loans ≡ old.actors.buffer.loans

@@ -1,33 +1,19 @@
 -- What an engine stands for, and what its calls write (this project's).
-use Rattle.std.specs.Prelude.{◌≡◌, ◌≤◌, ◌<◌, ◌+◌, ℕ, Bool, true, false, List, [], ◌++◌, length, map, max, Option, Some, None, Result, Ok, Err, ⊤}
+use Rattle.std.specs.Prelude.{◌≡◌, ◌≤◌, ℕ, Bool, true, false, List, [], ◌++◌, length, map, max, Option, Some, None, Result, Ok, Err, ⊤}
 use Rattle.gcx_base.specs.declared.limits.Limits.{Limits}
 use Rattle.gcx_model.specs.declared.fault.DocFault.{DocFault}
 use Rattle.gcx_model.specs.declared.fault.DocFault.TheVariants.{Memory}
-use Rattle.gcx_model.specs.Tree.{Tree, Token as Said}
+use Rattle.gcx_model.specs.Tree.{Tree, TreeToken as Said}
 use Rattle.gcx_model.specs.Core.{PlanTree}
 use Rattle.gcx_model.specs.PlanView.{plan_tree}
 use Rattle.gcx_model.specs.Run.{bytes_written}
-use Rattle.gcx_model.specs.Held.{sum_given}
 use Rattle.gcx_model.specs.Points.{actions}
-use Rattle.gcx_model.specs.Demand.{peak_of, text_of_lines, trace_lines}
+use Rattle.gcx_model.specs.Demand.{text_of_lines, trace_lines}
 use Rattle.gcx_model.specs.Seen.{SeenIs, seen_tree}
 use Rattle.doc_reader.specs.Standing.{Token, Stands, IsFault, waiting, said_of}
-use Rattle.buf_tree.specs.View.{View, capped}
-use Rattle.engine.specs.declared.actors.Tallied.{Tallied}
-use Rattle.engine.specs.Actors.{IsBalanced, StandAt}
+use Rattle.run_part.specs.Actors.{IsBalanced, StandAt}
 use Rattle.engine.specs.View.{EngineView}
-
--- A greatest number of rows: with one token at a time it is the peak, else at least the peak, and above it by less than `ahead`.
-pub record Peaks (peak ahead most : ℕ) : Type 0 where
-  pub least : peak ≤ most
-  pub near : most < peak + ahead
-
--- The numbers of these tokens: of the roles given, and of the rows that were counted.
-pub record CountsOf (plan : PlanTree) (ts : List Said) (ahead : ℕ) (v : View) (n : Tallied) : Type 0 where
-  pub given : n.given ≡ capped (sum_given plan (seen_tree ts))
-  pub peak : Peaks (peak_of plan ts) ahead n.peak
-  pub among : n.peak ≤ length (seen_tree ts).nodes
-  pub store_now : length v.rows ≤ v.most
+use Rattle.run_part.specs.Counts.{CountsOf}
 
 -- the limits that a reader may have
 pub record MayLimit (lim : Limits) : Type 0 where
@@ -136,10 +122,9 @@ pub record TraceGrewWithin (plan : PlanTree) (lim : Limits) (b : List ℕ) (was 
   pub traces : IsTrace plan lim c ended (old ++ (part ++ rest))
   pub grew : after ≡ before ++ part
 
--- A trace is wanted, and behind each token every possible action is taken.
-pub record IsTold {C : Type 0} (e : EngineView C) : Type 0 where
-  pub tracing : e.tracing ≡ true
-  pub alone : e.ahead ≡ 1
+-- A trace is wanted.
+abbrev pub IsTold : {C : Type 0} → EngineView C → Type 0
+IsTold e = e.tracing ≡ true
 
 -- An engine before any byte, as `new` makes it: what the plan's run writes before any token waits, and so does its trace.
 pub record Starts {C : Type 0} (stands : C → Tree → Type 0) (lim : Limits) (e : EngineView C) : Type 0 where

@@ -1,36 +1,17 @@
 -- How the parts of an engine go on from one state to a later one (this project's). This follows the code: beside what is refused of a slice
 -- no public clause speaks of it.
-use Rattle.std.specs.Prelude.{◌≡◌, ◌≤◌, ℕ, Bool, true, false, List, [], ◌∷◌, ◌++◌, length, map, Option, Some, None, Result, Ok, Err, ⊤}
+use Rattle.std.specs.Prelude.{◌≡◌, ℕ, Bool, List, [], ◌++◌, map, Option, Some, None, Result, Ok, Err, ⊤}
 use Rattle.gcx_base.specs.declared.limits.Limits.{Limits}
 use Rattle.gcx_base.specs.declared.memory.Memory.{Memory as Lack}
 use Rattle.gcx_model.specs.declared.fault.DocFault.{DocFault}
 use Rattle.gcx_model.specs.declared.fault.DocFault.TheVariants.{Memory}
-use Rattle.gcx_model.specs.Tree.{Root, Tree, Token as Said, opening}
+use Rattle.gcx_model.specs.Tree.{Tree, TreeToken as Said}
 use Rattle.gcx_model.specs.PlanView.{plan_tree}
-use Rattle.gcx_model.specs.Demand.{opened_line, text_of_lines}
-use Rattle.gcx_model.specs.Held.{sum_given}
-use Rattle.gcx_model.specs.Points.{actions}
 use Rattle.gcx_model.specs.Seen.{SeenIs, seen_tree}
-use Rattle.doc_reader.specs.Standing.{Token, Stands, waiting, said_of}
-use Rattle.buf_tree.specs.View.{capped}
+use Rattle.doc_reader.specs.Standing.{Token, waiting, said_of}
 use Rattle.engine.specs.View.{EngineView}
-use Rattle.engine.specs.Engine.{Balanced, CountsOf, KeepsMost, MayLimit, PartsStand, OnRefusal, ActorsAt}
-use Rattle.engine.specs.Actors.{Goes, all_of, bytes_at}
-
--- An engine before any token and any action.
-pub record Begins {C : Type 0} (stands : C → Tree → Type 0) (lim : Limits) (e : EngineView C) : Type 0 where
-  pub limits : MayLimit lim
-  pub reader : Stands e.reader lim [] false []
-  pub none : waiting e.reader ≡ []
-  pub actors : ActorsAt stands e opening 0
-  pub out : e.out ≡ []
-  pub trace : e.tracing ≡ true → e.trace ≡ text_of_lines (opened_line (plan_tree e.plan) opening Root ∷ [])
-  pub bytes : e.bytes ≡ 0
-  pub peak : e.actors.counts.peak ≡ 1
-  pub given : e.actors.counts.given ≡ capped (sum_given (plan_tree e.plan) opening)
-  pub most : 1 ≤ e.actors.buffer.most
-  pub unended : e.ended ≡ false
-  pub fresh : e.refused ≡ None
+use Rattle.engine.specs.Engine.{Balanced, KeepsMost, PartsStand, OnRefusal}
+use Rattle.run_part.specs.Actors.{Goes, all_of, bytes_at}
 
 -- what an answer of the reader refuses
 abbrev pub refusal_of : Result ⊤ DocFault → Option DocFault
@@ -49,18 +30,6 @@ pub record SomeParts {C : Type 0} (stands : C → Tree → Type 0) (e : EngineVi
   pub ended : Bool
   pub given : List Token
   pub of : PartsStand stands limits e read ended given
-
--- Up to `ahead` tokens were fed, and no action taken; where they are quiet, none is possible that wasn't.
-pub record FeedsSome {C : Type 0} (stands : C → Tree → Type 0) (lim : Limits) (old new : EngineView C) (b : List ℕ) (ended : Bool) (given : List Token) (quiet : Bool) : Type 0 where
-  pub more : List Token
-  pub few : length more ≤ old.ahead
-  pub waited : waiting old.reader ≡ more ++ waiting new.reader
-  pub limits : MayLimit lim
-  pub reader : Stands new.reader lim b ended (given ++ more)
-  pub actors : ActorsAt stands new (seen_tree (map said_of (given ++ more))) (all_of (plan_tree old.plan) (seen_tree (map said_of given)))
-  pub counts : CountsOf (plan_tree old.plan) (map said_of (given ++ more)) old.ahead new.actors.buffer new.actors.counts
-  pub most : KeepsMost old new
-  pub quietly : quiet ≡ true → actions (plan_tree old.plan) (seen_tree (map said_of (given ++ more))) ≡ actions (plan_tree old.plan) (seen_tree (map said_of given))
 
 -- more tokens were fed
 pub record FeedsOn {C : Type 0} (stands : C → Tree → Type 0) (lim : Limits) (old new : EngineView C) (b : List ℕ) (ended : Bool) (given : List Token) : Type 0 where

@@ -1,9 +1,6 @@
 pub mod View
-pub mod Actors
 pub mod Engine
-pub mod Late
 pub mod Going
 pub mod Calls
 pub mod Runs
-pub mod Telling
 pub mod Turns

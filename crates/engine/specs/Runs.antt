@@ -7,16 +7,17 @@ use Rattle.gcx_model.specs.declared.fault.DocFault.{DocFault}
 use Rattle.gcx_model.specs.declared.fault.DocFault.TheVariants.{Memory}
 use Rattle.gcx_model.specs.Core.{PlanTree}
 use Rattle.gcx_model.specs.PlanView.{plan_tree}
-use Rattle.gcx_model.specs.Tree.{Tree, Token as Said}
+use Rattle.gcx_model.specs.Tree.{Tree, TreeToken as Said}
 use Rattle.gcx_model.specs.Demand.{peak_of}
 use Rattle.gcx_model.specs.Held.{held, sum_given, sum_taken}
 use Rattle.gcx_model.specs.Points.{actions}
 use Rattle.gcx_model.specs.Seen.{SeenIs, seen_tree}
-use Rattle.run_words.specs.Ends.{EndsRun, RunEnd, Whole, Refused, ReadFailed, WriteFailed, NoMemory, SettlesBefore}
+use Rattle.run_words.specs.Ends.{EndsRun, RunEnd, Completed, Refused, ReadFailed, WriteFailed, NoMemory, SettlesBefore}
 use Rattle.run_words.specs.Reading.{SourceGave, ReadsOn, AreClean}
 use Rattle.run_words.specs.Stops.{Stop, More, is_end}
 use Rattle.run_words.specs.Writing.{Sinks, Traces}
-use Rattle.engine.specs.Engine.{IsSilent, IsTold, IsTrace, Peaks, Settles, StandsOf, Starts}
+use Rattle.engine.specs.Engine.{IsSilent, IsTold, IsTrace, Settles, StandsOf, Starts}
+use Rattle.run_part.specs.Counts.{Peaks}
 use Rattle.engine.specs.View.{EngineView}
 use Rattle.engine.specs.declared.report.Report.{Report}
 use Rattle.engine.specs.declared.report.Ended.{Ended}
@@ -24,7 +25,7 @@ use Rattle.engine.specs.declared.report.Ended.TheVariants as ends
 
 -- the end of a run, in the words that are said of all runs
 abbrev pub run_end : Ended → RunEnd
-run_end ends.Ok = Whole
+run_end ends.Ok = Completed
 run_end (ends.Refused f) = Refused f
 run_end ends.ReadFault = ReadFailed
 run_end ends.WriteFault = WriteFailed
@@ -62,30 +63,20 @@ UnlessMemory ends.ReadFault X = X
 UnlessMemory ends.WriteFault X = X
 UnlessMemory ends.Memory X = Unit {0}
 
--- What is told of a trace: that nothing goes there, where none is wanted; its lines, where one token is taken at a time; and of
--- every engine, that some text may go there.
+-- What is told of a trace: that nothing goes there, where none is wanted; and else its lines.
 pub data Traced : Type 0 where
   Silent : Traced
   ByToken : Traced
-  SomeText : Traced
 
 -- the engines of which so much is told
 abbrev pub TellsBy : {C : Type 0} → Traced → EngineView C → Type 0
 TellsBy Silent e = IsSilent e
 TellsBy ByToken e = IsTold e
-TellsBy SomeText e = Unit {0}
 
 -- a trace may be written
 abbrev pub is_traced : Traced → Bool
 is_traced Silent = false
 is_traced ByToken = true
-is_traced SomeText = true
-
--- what the text of the trace of these bytes is
-abbrev pub TracedBy : Traced → PlanTree → Limits → (List ℕ → Bool → List ℕ → Type 0)
-TracedBy Silent plan lim = IsTrace plan lim
-TracedBy ByToken plan lim = IsTrace plan lim
-TracedBy SomeText plan lim = λ b ended t. Unit {0}
 
 -- A run: what the source gave, what was written of it and of its trace, and what the engine stands for behind it. No read came
 -- behind a fault of the bytes.
@@ -95,7 +86,7 @@ pub record Ran {C : Type 0} (stands : C → Tree → Type 0) (lim : Limits) (t :
   pub gave : SourceGave left now pieces stop
   pub reads_on : ReadsOn lim pieces stop
   pub bytes : e.bytes ≡ length (joined pieces)
-  pub ends : EndsRun (Settles (plan_tree e.plan) lim) (TracedBy t (plan_tree e.plan) lim) lim (is_traced t) (run_end ended_by) pieces stop before after
+  pub ends : EndsRun (Settles (plan_tree e.plan) lim) (IsTrace (plan_tree e.plan) lim) lim (is_traced t) (run_end ended_by) pieces stop before after
   pub stand : UnlessMemory ended_by (StandsOf stands lim e (joined pieces) (is_end stop))
 
 -- what a run from an engine at its start makes, of each limits and of what is told of a trace
@@ -151,8 +142,8 @@ pub record TraceBetween (plan : PlanTree) (lim : Limits) (t : Traced) (pieces : 
   pub told : List ℕ
   pub rest : List ℕ
   pub took : Traces (is_traced t) a b told
-  pub traced : TracedBy t plan lim (joined pieces) false (told ++ rest)
-  pub before : SettlesBefore (TracedBy t plan lim) pieces More told
+  pub traced : IsTrace plan lim (joined pieces) false (told ++ rest)
+  pub before : SettlesBefore (IsTrace plan lim) pieces More told
   pub waits_is : is_traced t ≡ true → rest ≡ waits
 
 -- Between two reads: what is settled by the bytes read is written or waits, and what those before the last read settle is written.

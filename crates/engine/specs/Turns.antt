@@ -1,6 +1,6 @@
 -- What turns of the two actors reach, as an answer tells it (this project's).
 use Rattle.std.specs.Prelude.{◌≡◌, ◌≤◌, ◌<◌, ◌^◌, Bool, true, false, ℕ, List, length, map, drop}
-use Rattle.gcx_model.specs.Tree.{Tree, Token as Said, opening}
+use Rattle.gcx_model.specs.Tree.{Tree, TreeToken as Said, opening}
 use Rattle.gcx_model.specs.Core.{PlanTree}
 use Rattle.gcx_model.specs.Held.{held, sum_given, sum_taken}
 use Rattle.gcx_model.specs.Growth.{may_all}
@@ -9,7 +9,7 @@ use Rattle.gcx_model.specs.Turning.{Turn, Turned, Feed, turn, turned, tree_fed}
 use Rattle.gcx_model.specs.Turning as model
 use Rattle.doc_reader.specs.Standing.{said_of}
 use Rattle.buf_tree.specs.View.{capped}
-use Rattle.engine.specs.Actors.{Goes, StandAt, bytes_at}
+use Rattle.run_part.specs.Actors.{Goes, StandAt, bytes_at}
 use Rattle.engine.specs.declared.turns.Turn.{Turn as CodeTurn}
 use Rattle.engine.specs.declared.turns.Turn.TheVariants as code
 use Rattle.engine.specs.declared.turns.Course.{Course}

@@ -1,5 +1,5 @@
 //! The engine.
-ghost use Rattle.std.specs.Prelude.{◌≡◌, ◌≤◌, ◌<◌, ◌+◌, ◌^◌, ◌++◌, ℕ, Bool, true, false, [], List, length, max, None, Some, Err, IfOk, OnOk, OnErr};
+ghost use Rattle.std.specs.Prelude.{◌≡◌, ◌≤◌, ◌<◌, ◌+◌, ◌^◌, ◌++◌, ℕ, Bool, true, false, [], List, length, None, Some, Err, IfOk, OnOk, OnErr};
 ghost use Rattle.std.specs.FinMap as map;
 ghost use Rattle.gcx_base.specs.declared.limits.Limits.{Limits};
 ghost use Rattle.gcx_model.specs.Core.{BodyTree};
@@ -8,54 +8,40 @@ ghost use Rattle.gcx_model.specs.Placed.{Placed};
 ghost use Rattle.gcx_model.specs.PlanView.{plan_tree};
 ghost use Rattle.gcx_model.specs.Tree.{opening};
 ghost use Rattle.gcx_model.specs.declared.fault.DocFault.{DocFault};
-ghost use Rattle.doc_reader.specs.Standing.{Keeps, answer_by, answer_of, said_of, waiting};
+ghost use Rattle.doc_reader.specs.Standing.{KeepsAnswer, answer_by, answer_of, waiting};
 ghost use Rattle.buf_tree.specs.Shape.{Shape, cells};
 ghost use Rattle.buf_tree.specs.Spread.{SameButRoles};
-ghost use Rattle.engine.specs.Actors.{ActsAlone, ActsOnFrom, ActsSomeFrom, BalancesEach, FeedsEach, IsQuietFor, MayFeed, SomeActors};
 ghost use Rattle.engine.specs.Engine.{IsSilent, MayGoOn, MostIs, OnAnswer, OnRefusal, Starts, StandsOf, StandsSome};
-ghost use Rattle.engine.specs.Going.{Begins, SomeParts};
-ghost use Rattle.engine.specs.Telling.{TellsAll, TellsEach, TellsFront, TellsPart};
-ghost use Rattle.engine.specs.Calls.{AnswersEnd, AnswersPiece, BalancesFrom, BreaksFrom, FeedsAlone, FeedsFrom, FeedsSomeFrom, TakesLent, TakesNext, GoesAlone, FeedsAllFrom, IsEmptied, SameRun, FeedsEnd, FeedsPiece, TellsEnd, TellsOne, TellsPiece, TellsGroups, TellsWaiting, TellsWithin};
+ghost use Rattle.engine.specs.Going.{SomeParts};
+ghost use Rattle.engine.specs.Calls.{AnswersEnd, AnswersPiece, BreaksFrom, FeedsFrom, TakesLent, GoesAlone, FeedsAllFrom, IsEmptied, SameRun, FeedsEnd, FeedsPiece, TellsEnd, TellsPiece, TellsTokens, TellsWaiting, TellsWithin};
 
-use crate::actors::Actors;
-use crate::lines::opening_trace;
-use crate::owning::next_owned;
+use crate::any_part::AnyPart;
 use crate::slices::{cut, is_left, lacking, refusal};
-use crate::tallies::both;
 use buf_tree::Row;
 use cond_eval::Conds;
-use doc_reader::{LentReader, Token};
+use doc_reader::LentReader;
 use gcx_base::{Limits, Memory};
 use gcx_model::{DocFault, Plan};
 use node_store::NodeStore;
-use projector::Projector;
+use run_part::Tallied;
 use std::alloc::Global;
 use std::marker::Model;
 
-/// The numbers of a run: the bytes fed, the greatest number of rows in the opening state or just behind a token, and the
-/// roles given to nodes and taken back from them.
+/// The numbers of a run: the bytes fed, what was counted of rows and of roles given, and the roles taken back from nodes.
 #[derive(Clone, Copy, Debug, PartialEq, Eq)]
 pub struct Counts {
     pub bytes: u64,
-    pub peak: u64,
-    pub given: u128,
+    pub tallied: Tallied,
     pub taken: u128,
 }
 
 /// Runs a plan over a document that comes in pieces.
 #[derive(Drop)]
 pub struct Engine<'p, N: NodeStore<Row>, C: Conds> {
-    plan: &'p Plan,
     reader: LentReader,
-    actors: Actors<'p, N, C>,
-    /// The output and the trace that aren't written yet.
-    out: Vec<u8>,
-    trace: Vec<u8>,
-    tracing: bool,
+    part: AnyPart<'p, N, C>,
     /// Whether `finish` was called.
     ended: bool,
-    /// The most tokens between two times at which every possible action is taken.
-    ahead: u32,
     /// How many bytes were fed.
     bytes: u64,
     refused: Option<DocFault>,
@@ -70,29 +56,18 @@ impl<'p, N: NodeStore<Row>, C: Conds> Model for Engine<'p, N, C> {
     ghost use Rattle.buf_tree.specs.View.{view_code};
     ghost use Rattle.projector.specs.contracts.projector.Projector as feeder;
     ghost use Rattle.cond_eval.specs.contracts.env.Env as env;
-    ghost use Rattle.engine.specs.View.{EngineView};
+    ghost use Rattle.engine.specs.View.{EngineView, over_part, seen_part};
 
     ghost Value = { EngineView C };
 
     ghost coded = { Prim.hlevel (codes, feeder.the_row.coded, view_code row.the_row.coded off.the_row.coded waits.the_row.coded, item.the_row.coded, env.the_row.coded, C.code) };
 
-    ghost view = { λ e. record {
-      plan = e.plan.now;
-      ahead = e.ahead;
-      tracing = e.tracing;
-      reader = e.reader;
-      actors = e.actors;
-      out = e.out.items;
-      trace = e.trace.items;
-      bytes = e.bytes;
-      refused = e.refused;
-      ended = e.ended;
-    } };
+    ghost view = { λ e. over_part (seen_part e.part) e.reader e.bytes e.refused e.ended };
 }
 
 impl<'p, N: NodeStore<Row> + Drop, C: Conds + Drop> Engine<'p, N, C> {
-    /// An engine before any input, with every action taken that is possible. The store is empty. `ahead` is 1 to 1,000. What
-    /// the trace is if `ahead` is above 1 no clause says, so with `tracing` the program asks for 1.
+    /// An engine before any input, with every action taken that is possible. The store is empty. `ahead` is 1 to 1,000. With
+    /// `tracing` one token is taken at a time whatever `ahead` is, so the trace is that of the run.
     pub fn new(
         alloc: Global,
         plan: &'p Plan,
@@ -116,48 +91,12 @@ impl<'p, N: NodeStore<Row> + Drop, C: Conds + Drop> Engine<'p, N, C> {
         ensures silent { IfOk result (λ e. tracing ≡ false → IsSilent e) }
         ensures loans { IfOk result (λ e. e.actors.buffer.loans ≡ N.loans nodes) }
     {
-        let mut engine = Engine::begin(alloc, plan, nodes, conds, limits, ahead, tracing)?;
-        engine.act_all(alloc)?;
-        Ok(engine)
-    }
-
-    /// An engine before any input and before the first action.
-    fn begin(
-        alloc: Global,
-        plan: &'p Plan,
-        nodes: N,
-        conds: C,
-        limits: Limits,
-        ahead: u32,
-        tracing: bool,
-    ) -> Result<Engine<'p, N, C>, Memory>
-        requires placed { (core : BodyTree) × Good core × Placed core (plan_tree plan.now) }
-        requires empty { N.rows nodes ≡ map.empty }
-        requires conds { C.stands conds opening }
-        requires depth { limits.depth ≤ 1000 }
-        requires bytes { limits.bytes ≤ 1099511627776 }
-        ensures begins { IfOk result (λ e. Begins C.stands limits e) }
-        ensures most { IfOk result (λ e. e.actors.buffer.most ≡ max (N.most_held nodes) 1) }
-        ensures plan { IfOk result (λ e. e.plan ≡ plan.now) }
-        ensures ahead { IfOk result (λ e. e.ahead ≡ ahead) }
-        ensures tracing { IfOk result (λ e. e.tracing ≡ tracing) }
-        ensures silent { IfOk result (λ e. tracing ≡ false → e.trace ≡ []) }
-        ensures loans { IfOk result (λ e. e.actors.buffer.loans ≡ N.loans nodes) }
-    {
-        let projector = Projector::new(alloc, plan)?;
-        let given = projector.document(alloc)?;
-        let trace = opening_trace(alloc, tracing, &given)?;
-        let actors = Actors::new(alloc, plan, projector, given, nodes, conds)?;
+        let part = AnyPart::new(alloc, plan, nodes, conds, ahead, tracing)?;
         let reader = LentReader::new(alloc, limits);
         Ok(Engine {
-            plan,
             reader,
-            actors,
-            out: Vec::new(alloc),
-            trace,
-            tracing,
+            part,
             ended: false,
-            ahead,
             bytes: 0,
             refused: None,
         })
@@ -172,18 +111,16 @@ impl<'p, N: NodeStore<Row> + Drop, C: Conds + Drop> Engine<'p, N, C> {
         ensures loans { N.loans result ≡ self.entry.actors.buffer.loans }
     {
         let Engine {
-            plan: _,
             reader: _,
-            actors,
-            out: _,
-            trace: _,
-            tracing: _,
+            part,
             ended: _,
-            ahead: _,
             bytes: _,
             refused: _,
         } = self;
-        actors.into_nodes()
+        match part {
+            AnyPart::WithoutLines(part) => part.into_nodes(),
+            AnyPart::WithLines(part) => part.into_nodes(),
+        }
     }
 }
 
@@ -314,7 +251,7 @@ impl<'p, N: NodeStore<Row>, C: Conds> Engine<'p, N, C> {
         requires parts { SomeParts C.stands self.old }
         ensures goes { FeedsAllFrom C.stands self.old self.new }
         ensures told { TellsWaiting C.stands (OnRefusal self.new.refused) self.old self.new }
-        ensures keeps { Keeps self.old.reader self.new.reader }
+        ensures keeps { KeepsAnswer self.old.reader self.new.reader }
         ensures bytes { self.new.bytes ≡ self.old.bytes }
         ensures closing { self.new.ended ≡ self.old.ended }
         ensures same { SameRun self.old self.new }
@@ -324,162 +261,50 @@ impl<'p, N: NodeStore<Row>, C: Conds> Engine<'p, N, C> {
         self.refused = lacking(self.refused, fed);
     }
 
-    /// Feeds the tokens that wait, in groups, and takes every possible action behind each group. The end of the document
-    /// is lent once no token of a tag is.
+    /// Feeds the tokens that wait, and takes every action that is possible behind them. The end of the document is lent once
+    /// no token of a tag is.
     fn feed_waiting(&mut self, alloc: Global) -> Result<(), Memory>
         requires { SomeParts C.stands self.old }
         ensures feeds { OnOk result (FeedsFrom C.stands self.old self.new) }
         ensures none { OnOk result (waiting self.new.reader ≡ []) }
         ensures breaks { OnErr result (BreaksFrom C.stands self.old self.new) }
-        ensures told { OnOk result (TellsGroups C.stands self.old self.new) }
+        ensures told { OnOk result (TellsTokens C.stands self.old self.new) }
         ensures part { OnErr result (TellsWithin C.stands self.old self.new) }
         ensures same { GoesAlone self.old self.new }
     {
-        if self.tracing {
-            return self.feed_groups(alloc);
-        }
-        self.feed_lean(alloc)?;
-        self.feed_lean(alloc)
+        self.feed_lent(alloc)?;
+        self.feed_lent(alloc)
     }
 
-    /// Feeds the tokens that wait, owned and one by one, with their lines, in groups, and takes every possible action
-    /// behind each group.
-    fn feed_groups(&mut self, alloc: Global) -> Result<(), Memory>
-        requires parts { SomeParts C.stands self.old }
-        requires traced { self.old.tracing ≡ true }
-        ensures feeds { OnOk result (FeedsFrom C.stands self.old self.new) }
-        ensures none { OnOk result (waiting self.new.reader ≡ []) }
-        ensures breaks { OnErr result (BreaksFrom C.stands self.old self.new) }
-        ensures told { OnOk result (TellsGroups C.stands self.old self.new) }
-        ensures part { OnErr result (TellsWithin C.stands self.old self.new) }
-        ensures same { GoesAlone self.old self.new }
-    {
-        'groups: while self.feed_group(alloc)? {}
-        Ok(())
-    }
-
-    /// Feeds the tokens that are lent, in groups, and takes every possible action behind each group.
-    fn feed_lean(&mut self, alloc: Global) -> Result<(), Memory>
+    /// Feeds those that are lent.
+    fn feed_lent(&mut self, alloc: Global) -> Result<(), Memory>
         requires { SomeParts C.stands self.old }
         ensures feeds { OnOk result (FeedsFrom C.stands self.old self.new) }
         ensures takes { OnOk result (TakesLent self.old.reader self.new.reader) }
         ensures breaks { OnErr result (BreaksFrom C.stands self.old self.new) }
+        ensures told { OnOk result (TellsTokens C.stands self.old self.new) }
+        ensures part { OnErr result (TellsWithin C.stands self.old self.new) }
         ensures same { GoesAlone self.old self.new }
     {
         let (tokens, bytes) = self.reader.lent();
         let count = tokens.len();
-        self.actors
-            .feed_lent(alloc, tokens, bytes, self.ahead, &mut self.out)?;
+        self.part.take(alloc, tokens, bytes)?;
         self.reader.take_lent(count);
         Ok(())
-    }
-
-    /// Feeds the next tokens, up to `ahead` of them, and takes every possible action, where there may be one. False where
-    /// no token waits.
-    #[inline(always)]
-    fn feed_group(&mut self, alloc: Global) -> Result<bool, Memory>
-        requires parts { SomeParts C.stands self.old }
-        requires traced { self.old.tracing ≡ true }
-        ensures feeds { OnOk result (FeedsFrom C.stands self.old self.new) }
-        ensures none { IfOk result (λ any. any ≡ false → waiting self.new.reader ≡ []) }
-        ensures fewer { IfOk result (λ any. any ≡ true → length (waiting self.new.reader) < length (waiting self.old.reader)) }
-        ensures breaks { OnErr result (BreaksFrom C.stands self.old self.new) }
-        ensures told { OnOk result (TellsGroups C.stands self.old self.new) }
-        ensures part { OnErr result (TellsWithin C.stands self.old self.new) }
-        ensures same { GoesAlone self.old self.new }
-    {
-        let (any, quiet) = self.feed_some(alloc)?;
-        if quiet {
-            return Ok(any);
-        }
-        self.act_all(alloc)?;
-        Ok(any)
-    }
-
-    /// Feeds the next tokens, up to `ahead` of them. Answers whether there was one, and whether no action is possible behind
-    /// them that wasn't before.
-    #[inline(always)]
-    fn feed_some(&mut self, alloc: Global) -> Result<(bool, bool), Memory>
-        requires parts { SomeParts C.stands self.old }
-        requires traced { self.old.tracing ≡ true }
-        ensures feeds { IfOk result (λ r. FeedsSomeFrom C.stands self.old self.new r.1) }
-        ensures none { IfOk result (λ r. r.0 ≡ false → waiting self.new.reader ≡ []) }
-        ensures fewer { IfOk result (λ r. r.0 ≡ true → length (waiting self.new.reader) < length (waiting self.old.reader)) }
-        ensures balance { OnErr result (BalancesFrom C.stands self.old self.new) }
-        ensures told { IfOk result (λ r. TellsOne C.stands self.old self.new r.0) }
-        ensures part { OnErr result (TellsWithin C.stands self.old self.new) }
-        ensures same { FeedsAlone self.old self.new }
-    {
-        let mut any = false;
-        let mut quiet = true;
-        'tokens: for _index in 0..self.ahead {
-            let next = self.next_token(alloc)?;
-            let Some(token) = next else {
-                return Ok((any, quiet));
-            };
-            any = true;
-            let still = self.feed_one(alloc, token)?;
-            quiet = both(still, quiet);
-        }
-        Ok((any, quiet))
-    }
-
-    /// The next token that waits, with a name or text of its own.
-    fn next_token(&mut self, alloc: Global) -> Result<Option<Token>, Memory>
-        ensures gives { IfOk result (TakesNext self.old.reader self.new.reader) }
-        ensures keeps { Keeps self.old.reader self.new.reader }
-        ensures rest { self.new ≡ record self.old { reader = self.new.reader } }
-    {
-        next_owned(alloc, &mut self.reader)
-    }
-
-    /// Feeds one token, and appends its lines to the trace. True where no action is possible behind it that wasn't before.
-    #[inline(always)]
-    fn feed_one(&mut self, alloc: Global, token: Token) -> Result<bool, Memory>
-        requires { MayFeed C.stands self.old.actors (said_of token) }
-        ensures feeds { OnOk result (FeedsEach C.stands self.old.actors self.new.actors (said_of token)) }
-        ensures quiet { IfOk result (λ q. q ≡ true → IsQuietFor C.stands self.old.actors (said_of token)) }
-        ensures balance { OnErr result (BalancesEach C.stands self.old.actors self.new.actors (said_of token)) }
-        ensures told { OnOk result (TellsEach C.stands self.old.actors (said_of token) self.old.trace self.new.trace) }
-        ensures part { OnErr result (TellsPart C.stands self.old.actors (said_of token) self.old.trace self.new.trace) }
-        ensures rest { self.new ≡ record self.old { actors = self.new.actors; trace = self.new.trace } }
-        ensures machine { self.new.actors.machine ≡ self.old.actors.machine }
-        ensures loans { self.new.actors.buffer.loans ≡ self.old.actors.buffer.loans }
-    {
-        self.actors.feed_told(alloc, token, &mut self.trace)
-    }
-
-    /// Takes every action that is possible.
-    fn act_all(&mut self, alloc: Global) -> Result<(), Memory>
-        requires { SomeActors C.stands self.old.actors }
-        ensures acts { OnOk result (ActsOnFrom C.stands self.old.actors self.new.actors
-            self.old.out self.new.out) }
-        ensures some { OnErr result (ActsSomeFrom C.stands self.old.actors self.new.actors
-            self.old.out self.new.out) }
-        ensures told { OnOk result (self.old.tracing ≡ true
-            → TellsAll C.stands self.old.actors self.old.trace self.new.trace) }
-        ensures part { OnErr result (self.old.tracing ≡ true
-            → TellsFront C.stands self.old.actors self.old.trace self.new.trace) }
-        ensures rest { self.new ≡ record self.old { actors = self.new.actors; out = self.new.out; trace = self.new.trace } }
-        ensures same { ActsAlone self.old.actors self.new.actors }
-        ensures silent { IsSilent self.old → IsSilent self.new }
-    {
-        self.actors
-            .act_all_told(alloc, &mut self.out, &mut self.trace, self.tracing)
     }
 
     /// The output that isn't written yet.
     pub fn output(&self) -> &[u8]
         ensures { result.now ≡ self.now.out }
     {
-        &self.out
+        self.part.output()
     }
 
     /// The trace that isn't written yet.
     pub fn trace(&self) -> &[u8]
         ensures { result.now ≡ self.now.trace }
     {
-        &self.trace
+        self.part.trace()
     }
 
     /// The output is written.
@@ -487,7 +312,7 @@ impl<'p, N: NodeStore<Row>, C: Conds> Engine<'p, N, C> {
         ensures rest { self.new ≡ record self.old { out = self.new.out } }
         ensures empty { self.new.out ≡ [] }
     {
-        self.out.clear();
+        self.part.clear_output();
     }
 
     /// The trace is written.
@@ -495,22 +320,19 @@ impl<'p, N: NodeStore<Row>, C: Conds> Engine<'p, N, C> {
         ensures rest { self.new ≡ record self.old { trace = self.new.trace } }
         ensures empty { self.new.trace ≡ [] }
     {
-        self.trace.clear();
+        self.part.clear_trace();
     }
 
     /// The numbers so far.
     pub fn counts(&self) -> Counts
         ensures bytes { result.bytes ≡ self.now.bytes }
-        ensures peak { result.peak ≡ self.now.actors.counts.peak }
-        ensures given { result.given ≡ self.now.actors.counts.given }
+        ensures tallied { result.tallied ≡ self.now.actors.counts }
         ensures taken { result.taken ≡ self.now.actors.buffer.taken }
     {
-        let counts = self.actors.counts();
         Counts {
             bytes: self.bytes,
-            peak: counts.peak,
-            given: counts.given,
-            taken: self.actors.taken(),
+            tallied: self.part.counts(),
+            taken: self.part.taken(),
         }
     }
 
@@ -518,27 +340,27 @@ impl<'p, N: NodeStore<Row>, C: Conds> Engine<'p, N, C> {
     pub(crate) fn plan(&self) -> &Plan
         ensures { result.now ≡ self.now.plan }
     {
-        self.plan
+        self.part.plan()
     }
 
     /// How many nodes there were.
     pub(crate) fn nodes(&self) -> u64
         ensures { result ≡ self.now.actors.buffer.nodes }
     {
-        self.actors.nodes()
+        self.part.nodes()
     }
 
     /// How many nodes have rows.
     pub(crate) fn held(&self) -> u64
         ensures { result ≡ length self.now.actors.buffer.rows }
     {
-        self.actors.held()
+        self.part.held()
     }
 
     /// What finds the truth of conditions.
     pub fn conds(&self) -> &C
         ensures { result.now ≡ self.now.actors.machine.conds }
     {
-        self.actors.conds()
+        self.part.conds()
     }
 }

@@ -1,19 +1,14 @@
-//! The two actors over one buffer: the projector takes the tokens of a document, the evaluator the actions of a plan.
+//! The engine: a reader and the part of a plan. A whole run from a source to a sink, and turns of the actors in any
+//! order.
 #![tactic(auto)]
 
-mod actors;
+mod any_part;
 mod engine;
-mod lent;
-mod lines;
-mod owning;
 mod report;
 mod running;
 mod slices;
-mod tallies;
-mod told;
 mod turns;
 
-pub use actors::{Actors, Tallied};
 pub use engine::{Counts, Engine};
 pub use report::{Ended, Report};
 pub use running::{PIECE, ended_by, run_query};

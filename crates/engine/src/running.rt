@@ -173,8 +173,8 @@ pub fn run_query<N: NodeStore<Row>, C: Conds, D: Source, O: Sink, E: Sink>(
         ended,
         taken_bytes: counts.bytes,
         nodes: engine.nodes(),
-        peak: counts.peak,
-        given: counts.given,
+        peak: counts.tallied.peak,
+        given: counts.tallied.given,
         taken: counts.taken,
         held: engine.held(),
     }

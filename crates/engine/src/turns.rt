@@ -10,10 +10,9 @@ ghost use Rattle.gcx_model.specs.Growth.{may_all};
 ghost use Rattle.gcx_model.specs.Seen.{AreWithin};
 ghost use Rattle.gcx_model.specs.Turning.{Act};
 ghost use Rattle.doc_reader.specs.Standing.{said_of};
-ghost use Rattle.engine.specs.Telling.{GrewPart};
+ghost use Rattle.run_part.specs.Telling.{GrewPart};
 ghost use Rattle.engine.specs.Turns.{FeedsTurn, Reaches, SomeTurns, TakesTurn, TellsState, TellsTurned, actions_in, from_start, turn_of, written};
 
-use crate::actors::Actors;
 use crate::report::few_roles;
 use buf_tree::Row;
 use cond_eval::Conds;
@@ -22,6 +21,7 @@ use gcx_base::Memory;
 use gcx_model::Plan;
 use node_store::NodeStore;
 use projector::Projector;
+use run_part::Actors;
 use std::alloc::Global;
 use std::collections::VecDeque;
 

@@ -5,7 +5,7 @@ use Rattle.gcx_model.specs.Growth.{level, may_all, may_come}
 use Rattle.gcx_model.specs.Members.{In}
 use Rattle.gcx_model.specs.Past.{Past}
 use Rattle.gcx_model.specs.Seen.{AreWithin}
-use Rattle.gcx_model.specs.Tree.{Node, Tree, Token as Said, grow, grow_all, opening}
+use Rattle.gcx_model.specs.Tree.{Node, Tree, TreeToken as Said, grow, grow_all, opening}
 use Rattle.doc_reader.specs.Standing.{Token, said_of}
 use Rattle.buf_tree.specs.Shape.{Cell}
 use Rattle.buf_tree.specs.View.{View}
@@ -17,12 +17,12 @@ use Rattle.pull_eval.specs.Acting.{Acts}
 use Rattle.pull_eval.specs.declared.machine.Acted.{Acted}
 use Rattle.pull_eval.specs.declared.machine.Acted.TheVariants as acted
 use Rattle.pull_eval.specs.declared.position.Position.{Position}
-use Rattle.engine.specs.Actors.{ActorsStand, past_at}
-use Rattle.engine.proofs.Acting.{acts_by}
-use Rattle.engine.proofs.Feeding.{stands_fed}
-use Rattle.engine.proofs.RowsHeld.{shallow_rows}
-use Rattle.engine.proofs.Seeing.{may_parts}
-use Rattle.engine.proofs.Taking.{Did, beside_told, told_all}
+use Rattle.run_part.specs.Actors.{ActorsStand, past_at}
+use Rattle.run_part.proofs.Acting.{acts_by}
+use Rattle.run_part.proofs.Feeding.{stands_fed}
+use Rattle.run_part.proofs.RowsHeld.{shallow_rows}
+use Rattle.run_part.specs.Fronts.{may_parts}
+use Rattle.run_part.proofs.Taking.{Did, beside_told, told_all}
 use Rattle.engine_tests.specs.Demand.{Demands}
 
 -- conditions that are looked at anew stand for each tree

@@ -9,8 +9,10 @@ use Rattle.engine.specs.Engine.{OnAnswer}
 use Rattle.engine.proofs.CallsOfTurns.{ok_none}
 use Rattle.many_run.specs.Calls.{ClearsOutput, TakesDocEnd, TakesDocPiece}
 use Rattle.many_run.specs.Each.{OfEach}
-use Rattle.many_run.specs.Many.{ManyStand, ManyStandSome, PartStands}
-use Rattle.many_run.specs.View.{ManyView, PartView}
+use Rattle.many_run.specs.Many.{ManyStand, ManyStandSome}
+use Rattle.run_part.specs.Part.{PartStands}
+use Rattle.many_run.specs.View.{ManyView}
+use Rattle.run_part.specs.View.{PartView}
 use Rattle.many_run.proofs.Walking.{not_there, place_of, some_is, there}
 
 -- what holds of two holds of each of them
@@ -41,15 +43,15 @@ module _ {C : Type 0} (stands : C → Tree → Type 0) (old new : ManyView C) (f
 
 -- an output more was written
 module _ {C : Type 0} (stands : C → Tree → Type 0) (k : ℕ) (old new : ManyView C) (c : ClearsOutput k old new) (s : ManyStandSome stands old false) where
-  far : (i : ℕ) (q : PartView C) → slice_get new.parts i ≡ Some q → (i ≡ k → ⊥) → PartStands stands (map said_of s.of.given) q
+  far : (i : ℕ) (q : PartView C) → slice_get new.parts i ≡ Some q → (i ≡ k → ⊥) → PartStands stands 1 (map said_of s.of.given) q
   far i q at other = s.of.parts i q (sym (c.others i other) ∙ at)
 
-  here : (q : PartView C) → slice_get new.parts k ≡ Some q → PartStands stands (map said_of s.of.given) q
+  here : (q : PartView C) → slice_get new.parts k ≡ Some q → PartStands stands 1 (map said_of s.of.given) q
   here q at =
       let p = there old.parts k (let l = not_there new.parts k q at in let n = c.count in omega (arith, l, n)) in
-      subst (λ (z : PartView C). PartStands stands (map said_of s.of.given) z) (some_is (slice_get new.parts k) (record (p.0) { out = [] }) q (c.cleared p.0 p.1) at) (s.of.parts k p.0 p.1)
+      subst (λ (z : PartView C). PartStands stands 1 (map said_of s.of.given) z) (some_is (slice_get new.parts k) (record (p.0) { out = [] }) q (c.cleared p.0 p.1) at) (s.of.parts k p.0 p.1)
 
-  parts : (i : ℕ) (q : PartView C) → slice_get new.parts i ≡ Some q → PartStands stands (map said_of s.of.given) q
+  parts : (i : ℕ) (q : PartView C) → slice_get new.parts i ≡ Some q → PartStands stands 1 (map said_of s.of.given) q
   parts i q at =
       ⊎_elim (λ less. far i q at (λ same. let l : k < k = subst (λ (n : ℕ). n < k) same less in omega (arith, l)))
       (λ rest. ⊎_elim (λ same. here q (subst (λ (n : ℕ). slice_get new.parts n ≡ Some q) same at)) (λ above. far i q at (λ same. let l : k < k = subst (λ (n : ℕ). k < n) same (omega (arith, above)) in omega (arith, l))) rest) (place_of i k)

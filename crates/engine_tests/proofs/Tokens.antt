@@ -3,12 +3,13 @@ use Rattle.std.proofs.Common.{◌≡◌, ℕ, ◌+◌, ◌≤◌, ◌^◌, Bool,
 use Rattle.std.proofs.lemmas.List.{map-append}
 use Rattle.gcx_base.specs.Limits.{full_limits}
 use Rattle.gcx_model.specs.Growth.{may_all}
-use Rattle.gcx_model.specs.Tree.{Token as Said, opening}
+use Rattle.gcx_model.specs.Tree.{TreeToken as Said, opening}
 use Rattle.doc_laws.proofs.Growing.{seen_comes}
 use Rattle.doc_laws.proofs.TreeBounds.{seen_within}
 use Rattle.doc_reader.specs.Standing.{Token, ReaderView, Stands, said_of}
 use Rattle.gcx_model.specs.Seen.{AreWithin}
-use Rattle.engine.proofs.Seeing.{seeing, may_parts}
+use Rattle.engine.proofs.Seeing.{seeing}
+use Rattle.run_part.specs.Fronts.{may_parts}
 
 pub given_comes : (r : ReaderView) (b : List ℕ) (ended : Bool) (given : List Token) → Stands r full_limits b ended given → may_all (map said_of given) opening ≡ true
 given_comes r b ended given s =

@@ -10,6 +10,7 @@ mod passing;
 mod relations;
 mod rows;
 mod sides;
+mod takes;
 mod turns;
 
 ghost use Rattle.std.specs.Prelude.{◌≡◌, ◌≤◌, ◌<◌, IfOk};

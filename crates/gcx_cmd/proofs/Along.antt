@@ -11,7 +11,7 @@ use Rattle.gcx_io.specs.Causes.{Rose}
 use Rattle.gcx_io.specs.Shelf.{content_of}
 use Rattle.gcx_io.specs.Views.{Call, Gave, Failed, HandleView, ShelfView, missed}
 use Rattle.gcx_io.specs.Writing.{IsSomeBytes, joined}
-use Rattle.run_words.specs.Stops.{More, End, Fault}
+use Rattle.run_words.specs.Stops.{More, EndAnswered, FaultAnswered}
 use Rattle.gcx_cmd.proofs.Lists.{slice_get_push, slice_get_set, slice_get_before, slice_get_other}
 use Rattle.gcx_cmd.specs.Reads.{ReadsAsking, Opens, Misses, KeepsShelf, Within, PassesIn, most_of_query}
 
@@ -69,7 +69,7 @@ reads_more asked name h n a b c buf ps r once some within size =
     }
 
 pub reads_end : {E : Type 0} (asked : ℕ) (name : List ℕ) (h : ℕ) (a b c : ShelfView) (buf : List ℕ) (ps : List (List ℕ)) → ReadsAsking asked name h a b ps More
-    → ReadsOnce {E = E} h b c (Ok 0) buf → 0 < length buf → length buf ≡ asked → ReadsAsking asked name h a c ps End
+    → ReadsOnce {E = E} h b c (Ok 0) buf → 0 < length buf → length buf ≡ asked → ReadsAsking asked name h a c ps EndAnswered
 reads_end asked name h a b c buf ps r once room size =
     let same : once.old ≡ r.handle = same_handle b h once.old r.handle once.was r.at in
     record {
@@ -86,7 +86,7 @@ reads_end asked name h a b c buf ps r once room size =
     }
 
 pub reads_fault : {E : Type 0} (asked : ℕ) (name : List ℕ) (h : ℕ) (e : E) (a b c : ShelfView) (buf : List ℕ) (ps : List (List ℕ)) → ReadsAsking asked name h a b ps More
-    → ReadsOnce {E = E} h b c (Err e) buf → ReadsAsking asked name h a c ps Fault
+    → ReadsOnce {E = E} h b c (Err e) buf → ReadsAsking asked name h a c ps FaultAnswered
 reads_fault asked name h e a b c buf ps r once =
     let same : once.old ≡ r.handle = same_handle b h once.old r.handle once.was r.at in
     record {

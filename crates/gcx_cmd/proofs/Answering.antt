@@ -12,12 +12,12 @@ use Rattle.gcx_model.specs.Query.{ExprTree}
 use Rattle.gcx_model.specs.Sound.{is_sound}
 use Rattle.gcx_words.specs.declared.pairs.Pair.{Pair}
 use Rattle.placed_laws.proofs.Meaning.{normal_law}
-use Rattle.run_words.specs.Ends.{Whole}
+use Rattle.run_words.specs.Ends.{Completed}
 use Rattle.tree_read.specs.Document.{BytesSpell}
 use Rattle.many_run.specs.Files.{sink_at}
 use Rattle.gcx_cmd.proofs.Documents.{one_document, one_spelled, seen_document}
 use Rattle.gcx_cmd.specs.ManyDoes.{AcceptsQueries, RunsMany, TakeAnswers}
-use Rattle.gcx_cmd.specs.Outside.{Outside}
+use Rattle.gcx_cmd.specs.World.{World}
 use Rattle.gcx_cmd.specs.RunDoes.{Runs, WritesAnswer}
 use Rattle.gcx_cmd.specs.Running.{Settles}
 use Rattle.gcx_cmd.specs.declared.status.Status.TheVariants as status
@@ -30,7 +30,7 @@ answer_of q bytes settled d sound clean (ts, seen, is) spelled =
     is ∙ ap (known q) (w.tree_is ∙ ap tree_of (sym same)) ∙ normal_law q sound d
 
 -- `run` wrote it
-pub run_answers : (tracing : Bool) (ahead : ℕ) (q d : List ℕ) (a b : Outside) (r : Runs tracing ahead q d status.Ok a b) → WritesAnswer r.x r.pieces a.out b.out
+pub run_answers : (tracing : Bool) (ahead : ℕ) (q d : List ℕ) (a b : World) (r : Runs tracing ahead q d status.Ok a b) → WritesAnswer r.x r.pieces a.out b.out
 run_answers tracing ahead q d a b r =
     let w = one_document full_limits (joined r.pieces) r.ends.1 in
     record {
@@ -52,7 +52,7 @@ accepted_sound (p ∷ ps) (y ∷ xs) a b (m, one, accepted, k, rest) zero x at =
 accepted_sound (p ∷ ps) (y ∷ xs) a b (m, one, accepted, k, rest) (suc i) x at = accepted_sound ps xs m b rest i x at
 
 -- and each OUT of `many` took it
-pub many_answers : (d : List ℕ) (ps : List Pair) (a b : ShelfView) (r : RunsMany d ps Whole a b) → TakeAnswers r.xs r.outs r.run.pieces r.begun b
+pub many_answers : (d : List ℕ) (ps : List Pair) (a b : ShelfView) (r : RunsMany d ps Completed a b) → TakeAnswers r.xs r.outs r.run.pieces r.begun b
 many_answers d ps a b r =
     let clean = r.run.stops.1 in
     let w = one_document full_limits (joined r.run.pieces) clean in

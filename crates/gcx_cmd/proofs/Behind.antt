@@ -5,7 +5,7 @@ use Rattle.gcx_io.specs.Shelf.{Names, IsMissing, content_of}
 use Rattle.gcx_io.specs.Views.{Miss, ShelfView, missed}
 use Rattle.gcx_io.specs.Writing.{joined}
 use Rattle.gcx_model.specs.Query.{ExprTree}
-use Rattle.run_words.specs.Stops.{Stop, End}
+use Rattle.run_words.specs.Stops.{Stop, EndAnswered}
 use Rattle.gcx_cmd.proofs.Along.{keeps_on, rose_since}
 use Rattle.gcx_cmd.specs.QueryDoes.{AcceptsQuery}
 use Rattle.gcx_cmd.specs.Reads.{CausesFault, KeepsShelf, Misses, Opens, Reads, ReadsAsking}
@@ -42,7 +42,7 @@ module _ (q : List ℕ) (a m b : ShelfView) (x : List ExprTree) (one : Opens 1 a
   pub accepted_kept : AcceptsQuery q a b x
   accepted_kept = record {
     pieces = accepted.pieces;
-    reads = reads_kept q (length a.given) a m b accepted.pieces End accepted.reads (omega (arith, one.count)) l;
+    reads = reads_kept q (length a.given) a m b accepted.pieces EndAnswered accepted.reads (omega (arith, one.count)) l;
     within = accepted.within;
     accepts = accepted.accepts;
     only = accepted.only;

@@ -8,10 +8,10 @@ use Rattle.gcx_model.specs.Normal.{normal}
 use Rattle.gcx_model.specs.Placed.{plan_of}
 use Rattle.gcx_model.specs.Query.{ExprTree}
 use Rattle.gcx_model.specs.Seen.{SeenIs}
-use Rattle.gcx_model.specs.Tree.{Token}
+use Rattle.gcx_model.specs.Tree.{TreeToken}
 use Rattle.gcx_model.specs.declared.fault.DocFault.{DocFault}
 use Rattle.doc_laws.proofs.Unique.{fault_one}
-use Rattle.run_words.specs.Stops.{End, Fault, More, Stop, IsCalm, is_end}
+use Rattle.run_words.specs.Stops.{EndAnswered, FaultAnswered, More, Stop, IsCalm, is_end}
 use Rattle.xq_parse.specs.Spelling.{QuerySpells}
 use Rattle.time_laws.specs.Checking.{IsAnother, IsFront}
 use Rattle.trace_check.proofs.Accepted.{traces_are_accepted}
@@ -19,14 +19,14 @@ use Rattle.gcx_cmd.proofs.Complete.{refused_not}
 use Rattle.gcx_cmd.proofs.Says.{DocSays, check_doc_says, read_all, read_part, refused_query, says_of_document}
 use Rattle.gcx_cmd.specs.Accepting.{RefusesNothing}
 use Rattle.gcx_cmd.specs.CheckDoes.{CheckDoes, Checks}
-use Rattle.gcx_cmd.specs.Outside.{Outside}
+use Rattle.gcx_cmd.specs.World.{World}
 use Rattle.gcx_cmd.specs.Reads.{Reads}
 use Rattle.gcx_cmd.specs.RunDoes.{Runs}
 use Rattle.gcx_cmd.specs.Tracing.{trace_text}
 use Rattle.gcx_cmd.specs.declared.status.Status.{Status}
 use Rattle.gcx_cmd.specs.declared.status.Status.TheVariants as status
 
-module _ (ahead : ℕ) (q d : List ℕ) (a b : Outside) (r : Runs true ahead q d status.Ok a b) (x y z : List ℕ) (u v : Outside)
+module _ (ahead : ℕ) (q d : List ℕ) (a b : World) (r : Runs true ahead q d status.Ok a b) (x y z : List ℕ) (u v : World)
     (told_q : content_of u.shelf.names x ≡ Some (joined r.over.query.pieces)) (told_d : content_of u.shelf.names y ≡ Some (joined r.pieces)) (told_t : content_of u.shelf.names z ≡ Some r.ends.2.trace) where
   abbrev took : List ℕ
   took = r.ends.2.trace
@@ -53,11 +53,11 @@ module _ (ahead : ℕ) (q d : List ℕ) (a b : Outside) (r : Runs true ahead q d
       early = let part = read_part z took (length u.shelf.given + 2) u.shelf v.shelf c.pieces told_t c.stop c.over.trace in (part.0, sym is ∙ part.1)
 
       by : (stop : Stop) → c.stop ≡ stop → IsCalm stop → IsAnother (trace_text c.x c.ts) (joined c.pieces) (is_end stop) → ⊥
-      by Fault e calm other = calm
+      by FaultAnswered e calm other = calm
       by More e calm (inl front) = front early
       by More e calm (inr rest) = let ended : is_end More ≡ true = rest.0 in let no : ⊥ = cc in no
-      by End e calm (inl front) = front early
-      by End e calm (inr rest) =
+      by EndAnswered e calm (inl front) = front early
+      by EndAnswered e calm (inr rest) =
           let all = read_all z took (length u.shelf.given + 2) u.shelf v.shelf c.pieces told_t (subst (λ (s : Stop). Reads z (length u.shelf.given + 2) u.shelf v.shelf c.pieces s) e c.over.trace) in
           rest.2 (sym all ∙ is)
 

@@ -10,10 +10,10 @@ use Rattle.gcx_model.specs.Growth.{may_all}
 use Rattle.gcx_model.specs.Normal.{normal}
 use Rattle.gcx_model.specs.Placed.{plan_of}
 use Rattle.gcx_model.specs.Query.{ExprTree}
-use Rattle.gcx_model.specs.Tree.{Token, opening}
+use Rattle.gcx_model.specs.Tree.{TreeToken, opening}
 use Rattle.gcx_words.specs.declared.command.Command.TheVariants.{Check}
 use Rattle.run_words.specs.Reading.{ReadsOn}
-use Rattle.run_words.specs.Stops.{Stop, End, IsCalm}
+use Rattle.run_words.specs.Stops.{Stop, EndAnswered, IsCalm}
 use Rattle.doc_laws.proofs.Growing.{seen_comes}
 use Rattle.doc_reader.specs.Standing.{said_of, Token as Given}
 use Rattle.time_laws.specs.Checking.{fitted, line_ends}
@@ -27,7 +27,7 @@ use Rattle.gcx_cmd.specs.CheckDoes.{CheckDoes, IsText, OverText, OverTrace, Trac
 use Rattle.gcx_cmd.specs.Does.{DoesIf}
 use Rattle.gcx_cmd.specs.DocumentDoes.{Over, HasFault, IsCut, SeesTokens, TokensDoes}
 use Rattle.gcx_cmd.specs.Main.{HasNoMemory}
-use Rattle.gcx_cmd.specs.Outside.{StoreView, beside}
+use Rattle.gcx_cmd.specs.World.{StoreView, beside}
 use Rattle.gcx_cmd.specs.QueryDoes.{AcceptsQuery}
 use Rattle.gcx_cmd.specs.Reads.{CausesFault, KeepsShelf, Misses, Opens, Reads}
 use Rattle.gcx_cmd.specs.Texts.{lines_line}
@@ -37,14 +37,14 @@ use Rattle.gcx_cmd.specs.declared.status.Status.{Status}
 use Rattle.gcx_cmd.specs.declared.status.Status.TheVariants as status
 
 -- QUERY is accepted and DOC was read, whole and with these tokens.
-pub record HasDocument (q d : List ℕ) (a b : ShelfView) (x : List ExprTree) (ts : List Token) : Type 0 where
+pub record HasDocument (q d : List ℕ) (a b : ShelfView) (x : List ExprTree) (ts : List TreeToken) : Type 0 where
   pub keeps : KeepsShelf a b
   pub two : Opens 2 a b
   pub query : AcceptsQuery q a b x
   pub pieces : List (List ℕ)
-  pub doc : Reads d (length a.given + 1) a b pieces End
-  pub reads_on : ReadsOn full_limits pieces End
-  pub tokens : SeesTokens pieces End ts
+  pub doc : Reads d (length a.given + 1) a b pieces EndAnswered
+  pub reads_on : ReadsOn full_limits pieces EndAnswered
+  pub tokens : SeesTokens pieces EndAnswered ts
 
 -- the tokens of a document come one behind the other
 pub come : (d : List ℕ) (a b : ShelfView) (tokens : VecDeque Given Global) → TokensDoes d (Ok tokens) a b → may_all (map said_of tokens.items) opening ≡ true
@@ -77,7 +77,7 @@ module _ (q d t : List ℕ) (a m b : ShelfView) (x : List ExprTree) (one : Opens
     unread status.WriteFault w = absurd w
     unread status.Memory (inl none) =
         let kept = accepted_kept q a m b x one accepted k l in
-        inl (untouched a b o e st, inr (opens_still q a m b x one accepted k l none, kept.pieces, End, kept.reads, inl (tt, kept.within)))
+        inl (untouched a b o e st, inr (opens_still q a m b x one accepted k l none, kept.pieces, EndAnswered, kept.reads, inl (tt, kept.within)))
     unread status.Memory (inr w) =
         inr (inl (record {
           untouched = untouched a b o e st;
@@ -102,21 +102,21 @@ module _ (q d t : List ℕ) (a m b : ShelfView) (x : List ExprTree) (one : Opens
       unread s w,
     )
 
-module _ (q d t : List ℕ) (a m b : ShelfView) (x : List ExprTree) (ts : List Token) (h : HasDocument q d a m x ts) (l : KeepsShelf m b) where
+module _ (q d t : List ℕ) (a m b : ShelfView) (x : List ExprTree) (ts : List TreeToken) (h : HasDocument q d a m x ts) (l : KeepsShelf m b) where
   kept : KeepsShelf a b
   kept = keeps_on a m b h.keeps l (omega (arith, h.two.count))
 
   query_kept : AcceptsQuery q a b x
   query_kept = record {
     pieces = h.query.pieces;
-    reads = reads_kept q (length a.given) a m b h.query.pieces End h.query.reads (omega (arith, h.two.count)) l;
+    reads = reads_kept q (length a.given) a m b h.query.pieces EndAnswered h.query.reads (omega (arith, h.two.count)) l;
     within = h.query.within;
     accepts = h.query.accepts;
     only = h.query.only;
   }
 
-  doc_kept : Reads d (length a.given + 1) a b h.pieces End
-  doc_kept = reads_kept d (length a.given + 1) a m b h.pieces End h.doc (omega (arith, h.two.count)) l
+  doc_kept : Reads d (length a.given + 1) a b h.pieces EndAnswered
+  doc_kept = reads_kept d (length a.given + 1) a m b h.pieces EndAnswered h.doc (omega (arith, h.two.count)) l
 
   over_trace : (o p e : SinkView) (st : StoreView) (Says : List (List ℕ) → Stop → Type 0) (w : OverText t (trace_text x ts) Says m b)
       → OverTrace q d t (beside a o e st) (beside b p e st) x ts w.pieces w.stop
@@ -142,7 +142,7 @@ module _ (q d t : List ℕ) (a m b : ShelfView) (x : List ExprTree) (ts : List T
   -- TRACE isn't that of the run, or isn't read
   module _ (o e : SinkView) (st : StoreView) where
     -- TRACE wasn't opened
-    over_document : Opens 0 m b → Over q d (beside a o e st) (beside b o e st) x h.pieces End
+    over_document : Opens 0 m b → Over q d (beside a o e st) (beside b o e st) x h.pieces EndAnswered
     over_document none = record {
       two = record { count = omega (arith, h.two.count, none.count); refused = none.refused ∙ h.two.refused };
       query = query_kept;
@@ -179,7 +179,7 @@ module _ (q d t : List ℕ) (a m b : ShelfView) (x : List ExprTree) (ts : List T
         })))
     unjudged status.WriteFault w = absurd w
     unjudged status.Memory (inl none) =
-        inr (inl (record { untouched = untouched a b o e st; x = x; pieces = h.pieces; stop = End; over = over_document none; says = tt }))
+        inr (inl (record { untouched = untouched a b o e st; x = x; pieces = h.pieces; stop = EndAnswered; over = over_document none; says = tt }))
     unjudged status.Memory (inr w) =
         inr (inr (record { x = x; ts = ts; pieces = w.pieces; stop = w.stop; over = over_trace o o e st _ w; judged = (inl w.says, refl); err = refl; store = refl }))
     unjudged (status.TraceRefused n) w =

@@ -15,7 +15,7 @@ use Rattle.gcx_words.proofs.Within.{asked_within}
 use Rattle.gcx_words.specs.Pairs.{are_apart}
 use Rattle.gcx_words.specs.Within.{IsWithin}
 use Rattle.gcx_words.specs.declared.pairs.Pair.{Pair}
-use Rattle.run_words.specs.Ends.{Refused, Whole}
+use Rattle.run_words.specs.Ends.{Refused, Completed}
 use Rattle.gcx_cmd.proofs.Manies.{queries_keep, queries_refuse}
 use Rattle.gcx_cmd.proofs.ManyBytes.{accepted_there, at_split, doc_refused, doc_whole, out_holds, refused_one, stopped_there}
 use Rattle.gcx_words.specs.declared.command.Command.{Command}
@@ -33,7 +33,7 @@ use Rattle.gcx_cmd.specs.Keeps.{HasCauses, Keeps}
 use Rattle.gcx_cmd.specs.ManyAnswers.{AnswersMany}
 use Rattle.gcx_cmd.specs.ManyDoes.{AcceptsQueries, ManyDoes, ManyEnds, StopsAtQuery}
 use Rattle.gcx_cmd.specs.Main.{IsDocument, IsQuery, QueryFaultOf}
-use Rattle.gcx_cmd.specs.Outside.{Outside}
+use Rattle.gcx_cmd.specs.World.{World}
 use Rattle.gcx_cmd.specs.PeakDoes.{PeakDoes}
 use Rattle.gcx_cmd.specs.QueryDoes.{AcceptsQuery, FailsInText}
 use Rattle.gcx_cmd.specs.Reads.{Misses, Opens}
@@ -57,26 +57,26 @@ rose_twice a b c first second = omega (arith, first, second)
 abbrev pub QueryStage : List ℕ → ShelfView → ShelfView → Type 0
 QueryStage q a b = FailsInText q a b ⊎ ((x : List ExprTree) × AcceptsQuery q a b x)
 
-run_stage : (tracing : Bool) (ahead : ℕ) (q d : List ℕ) (a b : Outside) → RunDoes tracing ahead q d status.ReadFault a b → QueryStage q a.shelf b.shelf
+run_stage : (tracing : Bool) (ahead : ℕ) (q d : List ℕ) (a b : World) → RunDoes tracing ahead q d status.ReadFault a b → QueryStage q a.shelf b.shelf
 run_stage tracing ahead q d a b (inl (same, inl fails)) = inl fails
 run_stage tracing ahead q d a b (inl (same, inr (n, e, gone, x, accepted))) = inr (x, accepted)
 run_stage tracing ahead q d a b (inr r) = inr (r.x, r.over.query)
 
-whole_stage : (q d : List ℕ) (a b : Outside) → WholeDoes q d status.ReadFault a b → QueryStage q a.shelf b.shelf
+whole_stage : (q d : List ℕ) (a b : World) → WholeDoes q d status.ReadFault a b → QueryStage q a.shelf b.shelf
 whole_stage q d a b (inl (same, inl fails)) = inl fails
 whole_stage q d a b (inl (same, inr (n, e, gone, x, accepted))) = inr (x, accepted)
 whole_stage q d a b (inr r) = inr (r.x, r.over.query)
 
-peak_stage : (q d : List ℕ) (a b : Outside) → PeakDoes q d status.ReadFault a b → QueryStage q a.shelf b.shelf
+peak_stage : (q d : List ℕ) (a b : World) → PeakDoes q d status.ReadFault a b → QueryStage q a.shelf b.shelf
 peak_stage q d a b (inl (same, inl fails)) = inl fails
 peak_stage q d a b (inl (same, inr (n, e, gone, x, accepted))) = inr (x, accepted)
 peak_stage q d a b (inr r) = inr (r.x, r.over.query)
 
-explain_stage : (q : List ℕ) (a b : Outside) → ExplainDoes q status.ReadFault a b → QueryStage q a.shelf b.shelf
+explain_stage : (q : List ℕ) (a b : World) → ExplainDoes q status.ReadFault a b → QueryStage q a.shelf b.shelf
 explain_stage q a b (same, inl fails) = inl fails
 explain_stage q a b (same, inr (n, e, gone, x, accepted)) = inr (x, accepted)
 
-check_stage : (q d t : List ℕ) (a b : Outside) → CheckDoes q d t status.ReadFault a b → QueryStage q a.shelf b.shelf
+check_stage : (q d t : List ℕ) (a b : World) → CheckDoes q d t status.ReadFault a b → QueryStage q a.shelf b.shelf
 check_stage q d t a b (inl (same, inl fails)) = inl fails
 check_stage q d t a b (inl (same, inr (n, e, gone, x, accepted))) = inr (x, accepted)
 check_stage q d t a b (inr (inl r)) = inr (r.x, r.over.query)
@@ -114,7 +114,7 @@ whole_not d bytes f a b told fault clean = none_fault f (fault_one full_limits b
     none_fault g e = cc
 
 -- `check` with QUERY and a refused DOC that are there lacks no file: TRACE isn't opened
-document_not : (c : Command) (q d t query bytes : List ℕ) (f : DocFault) (a b : Outside) → content_of a.shelf.names q ≡ Some query → content_of a.shelf.names d ≡ Some bytes
+document_not : (c : Command) (q d t query bytes : List ℕ) (f : DocFault) (a b : World) → content_of a.shelf.names q ≡ Some query → content_of a.shelf.names d ≡ Some bytes
     → FaultIs full_limits bytes true (Some f) → CheckDoes q d t status.ReadFault a b → LacksFile c a.shelf b.shelf → ⊥
 document_not c q d t query bytes f a b told_q told_d fault (inl (same, inl (inl gone))) lacks = missed_there c q query 0 a.shelf b.shelf told_q gone lacks
 document_not c q d t query bytes f a b told_q told_d fault (inl (same, inl (inr (one, ps, reads, within)))) lacks = opened_all c 1 a.shelf b.shelf one lacks
@@ -139,7 +139,7 @@ no_queries (Check q d t) r is n among = among
 
 -- ---- what no count that stays lets come
 
-module _ (c : Command) (s : Status) (a m b : Outside) (keeps : Keeps c s a m) (diag : Diagnoses s m b) where
+module _ (c : Command) (s : Status) (a m b : World) (keeps : Keeps c s a m) (diag : Diagnoses s m b) where
   rose_shelf : Rose a.shelf.faults m.shelf.faults → Rose a.shelf.faults b.shelf.faults
   rose_shelf rose = subst (λ (v : ShelfView). Rose a.shelf.faults v.faults) (sym diag.shelf) rose
 
@@ -228,7 +228,7 @@ module _ (c : Command) (s : Status) (a m b : Outside) (keeps : Keeps c s a m) (d
 
 -- ---- commands without DOC
 
-explain_well : (q bytes : List ℕ) (s : Status) (a m : Outside) → ExplainDoes q s a m → content_of a.shelf.names q ≡ Some bytes → IsQuery bytes
+explain_well : (q bytes : List ℕ) (s : Status) (a m : World) → ExplainDoes q s a m → content_of a.shelf.names q ≡ Some bytes → IsQuery bytes
     → (s ≡ status.ReadFault → ⊥) → (s ≡ status.WriteFault → ⊥) → Ends status.Ok s
 explain_well q bytes status.Ok a m r told good not_read not_write = inl refl
 explain_well q bytes status.Usage a m r told good not_read not_write = absurd r
@@ -240,7 +240,7 @@ explain_well q bytes status.WriteFault a m r told good not_read not_write = absu
 explain_well q bytes status.Memory a m r told good not_read not_write = inr refl
 explain_well q bytes (status.TraceRefused n) a m r told good not_read not_write = absurd r
 
-gen_well : (seed count : ℕ) (s : Status) (a m : Outside) → GenDoes seed count s a m → (s ≡ status.WriteFault → ⊥) → Ends status.Ok s
+gen_well : (seed count : ℕ) (s : Status) (a m : World) → GenDoes seed count s a m → (s ≡ status.WriteFault → ⊥) → Ends status.Ok s
 gen_well seed count status.Ok a m r not_write = inl refl
 gen_well seed count status.Usage a m r not_write = absurd r
 gen_well seed count (status.QueryRefused f) a m r not_write = absurd r
@@ -250,7 +250,7 @@ gen_well seed count status.WriteFault a m r not_write = absurd (not_write refl)
 gen_well seed count status.Memory a m r not_write = inr refl
 gen_well seed count (status.TraceRefused n) a m r not_write = absurd r
 
-self_well : (seed count : ℕ) (s : Status) (a m : Outside) → SelfrunDoes seed count s a m → (s ≡ status.WriteFault → ⊥) → Ends status.Ok s
+self_well : (seed count : ℕ) (s : Status) (a m : World) → SelfrunDoes seed count s a m → (s ≡ status.WriteFault → ⊥) → Ends status.Ok s
 self_well seed count status.Ok a m r not_write = inl refl
 self_well seed count status.Usage a m r not_write = absurd r
 self_well seed count (status.QueryRefused f) a m r not_write = absurd r
@@ -261,7 +261,7 @@ self_well seed count status.Memory a m r not_write = inr refl
 self_well seed count (status.TraceRefused n) a m r not_write = absurd r
 
 -- `many` ends well
-many_well : (d : List ℕ) (ps : List Pair) → are_apart d ps ≡ true → (s : Status) (a m : Outside) → ManyDoes d ps s a m → AreQueries a.shelf.names ps
+many_well : (d : List ℕ) (ps : List Pair) → are_apart d ps ≡ true → (s : Status) (a m : World) → ManyDoes d ps s a m → AreQueries a.shelf.names ps
     → HoldsSuch a.shelf.names d IsDocument → IsTelling m.shelf.names → (s ≡ status.ReadFault → ⊥) → (s ≡ status.WriteFault → ⊥) → Ends status.Ok s
 many_well d ps apart status.Ok a m o hq hd telling not_read not_write = inl refl
 many_well d ps apart status.Usage a m o hq hd telling not_read not_write = absurd o.1
@@ -360,7 +360,7 @@ module _ (c : Command) (d : List ℕ) (ps before : List Pair) (p : Pair) (behind
 many_refuses_doc : (d : List ℕ) (ps : List Pair) → are_apart d ps ≡ true → (f : DocFault) (s : Status) (a m : ShelfView) → ManyEnds d ps s a m → AreQueries a.names ps
     → HoldsSuch a.names d (λ bytes. FaultIs full_limits bytes true (Some f)) → IsTelling m.names → (s ≡ status.ReadFault → ⊥) → (s ≡ status.WriteFault → ⊥) → Ends (status.DocumentRefused f) s
 many_refuses_doc d ps apart f status.Ok a m o hq hd telling not_read not_write =
-    let whole : hd.0 ≡ joined o.0.run.pieces = doc_whole d ps apart Whole a m o.0 telling hd.0 hd.1 o.0.run.stops.0 in
+    let whole : hd.0 ≡ joined o.0.run.pieces = doc_whole d ps apart Completed a m o.0 telling hd.0 hd.1 o.0.run.stops.0 in
     absurd (none_fault f (fault_one full_limits hd.0 true None (Some f) (subst (λ (l : List ℕ). FaultIs full_limits l true None) (sym whole) o.0.run.stops.1) hd.2))
   where
     none_fault : (g : DocFault) → None ≡ Some g → ⊥
@@ -381,7 +381,7 @@ many_refuses_doc d ps apart f (status.TraceRefused n) a m o hq hd telling not_re
 
 -- ---- each command
 
-never_usage : (c : Command) (s : Status) (a m : Outside) → Obeys c s a m → s ≡ status.Usage → ⊥
+never_usage : (c : Command) (s : Status) (a m : World) → Obeys c s a m → s ≡ status.Usage → ⊥
 never_usage (Run trace ahead q d) s a m o is = subst (λ (t : Status). RunDoes trace ahead q d t a m) is o
 never_usage (Whole q d) s a m o is = subst (λ (t : Status). WholeDoes q d t a m) is o
 never_usage (Explain q) s a m o is = subst (λ (t : Status). ExplainDoes q t a m) is o
@@ -391,7 +391,7 @@ never_usage (Selfrun seed count) s a m o is = subst (λ (t : Status). SelfrunDoe
 never_usage (Many d ps) s a m o is = (subst (λ (t : Status). ManyDoes d ps t a m) is o).1
 never_usage (Check q d t) s a m o is = subst (λ (z : Status). CheckDoes q d t z a m) is o
 
-completes_for : (c : Command) → IsWithin c → (s : Status) (a m b : Outside) → Keeps c s a m → Obeys c s a m → Diagnoses s m b → CompletesFor c s a b
+completes_for : (c : Command) → IsWithin c → (s : Status) (a m b : World) → Keeps c s a m → Obeys c s a m → Diagnoses s m b → CompletesFor c s a b
 completes_for (Run trace ahead q d) within s a m b keeps o diag =
     let not_judged : (n : ℕ) → s ≡ status.TraceRefused n → ⊥ = λ n is. subst (λ (t : Status). RunDoes trace ahead q d t a m) is o in
     let says = run_query_says trace ahead q d s a m o in
@@ -499,13 +499,13 @@ completes_for (Check q d t) within s a m b keeps o diag =
     }
 
 -- what a command line does says which status must come
-pub completes : (words : List (List ℕ)) (s : Status) (a b : Outside) → Does words s a b → Completes words s a b
+pub completes : (words : List (List ℕ)) (s : Status) (a b : World) → Does words s a b → Completes words s a b
 completes words s a b does = λ c asked.
     let done : DoesIf (Some c) s a does.between = subst (λ (o : Option Command). DoesIf o s a does.between) asked does.done in
     completes_for c (asked_within words c asked) s a does.between b done.0 done.1 does.diagnosed
 
 -- at Ok each OUT of `many` holds the answer of its QUERY
-pub answers_many : (words : List (List ℕ)) (s : Status) (a b : Outside) → Does words s a b → AnswersMany words s a b
+pub answers_many : (words : List (List ℕ)) (s : Status) (a b : World) → Does words s a b → AnswersMany words s a b
 answers_many words s a b does d ps asked ok telling i p query_bytes document_bytes is_p told_q told_d q doc accepted spelled =
     let done : DoesIf (Some (Many d ps)) s a does.between = subst (λ (o : Option Command). DoesIf o s a does.between) asked does.done in
     let r : ManyDoes d ps status.Ok a does.between = subst (λ (t : Status). ManyDoes d ps t a does.between) ok done.1 in

@@ -7,14 +7,14 @@ use Rattle.engine.specs.declared.report.Ended.TheVariants as end
 use Rattle.engine.specs.declared.report.Report.{Report}
 use Rattle.gcx_cmd.proofs.FileRead.{FileRead}
 use Rattle.gcx_cmd.specs.DocumentDoes.{OverDoc}
-use Rattle.gcx_cmd.specs.Outside.{Outside, sinks_of}
+use Rattle.gcx_cmd.specs.World.{World, sinks_of}
 use Rattle.gcx_cmd.specs.RunDoes.{EndsBy, HoldsSeen}
 use Rattle.gcx_cmd.specs.Running.{UnlessOutOfMemory}
 use Rattle.gcx_cmd.specs.Runs.{DocumentRuns, SourceRuns}
 use Rattle.gcx_cmd.specs.Status.{ended_status}
 use Rattle.gcx_cmd.specs.declared.status.Status.TheVariants as status
 
-module _ (tracing : Bool) (ahead : ℕ) (x : List ExprTree) (d : List ℕ) (a b : Outside) (s t : SourceView) (f : FileRead d a.shelf b.shelf s t) where
+module _ (tracing : Bool) (ahead : ℕ) (x : List ExprTree) (d : List ℕ) (a b : World) (s t : SourceView) (f : FileRead d a.shelf b.shelf s t) where
   over : (r : Report) → SourceRuns tracing ahead x r s t a.out b.out a.err b.err b.store
       → OverDoc d (λ pieces stop. EndsBy x tracing (ended_status r.ended) pieces stop (sinks_of a) (sinks_of b)
       × UnlessOutOfMemory (ended_status r.ended) (HoldsSeen x ahead pieces stop b.store)) a.shelf b.shelf

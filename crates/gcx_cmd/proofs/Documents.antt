@@ -5,9 +5,9 @@ use Rattle.std.proofs.lemmas.Str.{chars-encodes}
 use lib.Utf8.{encodes}
 use Rattle.gcx_base.specs.declared.limits.Limits.{Limits}
 use Rattle.gcx_model.specs.Document.{Nodes, tree_of}
-use Rattle.gcx_model.specs.Tree.{Token, End}
+use Rattle.gcx_model.specs.Tree.{TreeToken, End}
 use Rattle.gcx_model.specs.Grammar.{SpellsDocument}
-use Rattle.gcx_model.specs.Faults.{FaultIs, within_limit, before_limit, past_limit, FaultWithin, by_character, by_sequence, by_cut, by_end, none_yet, none_whole, Refusal, AtSyntax, AtDepth, AtName, AtText, fault_of}
+use Rattle.gcx_model.specs.Faults.{FaultIs, within_limit, before_limit, past_limit, FaultWithin, by_character, by_sequence, by_cut, by_end, none_yet, none_whole, DocumentRefusal, AtSyntax, AtDepth, AtName, AtText, fault_of}
 use Rattle.gcx_model.specs.Seen.{SeenIs, seen_tree}
 use Rattle.gcx_model.specs.declared.fault.DocFault.{DocFault}
 use Rattle.gcx_model.specs.declared.fault.DocFault.TheVariants as fault
@@ -25,7 +25,7 @@ use Rattle.engine.proofs.Whole.{whole_of}
 no_some : {X : Type 0} (f : DocFault) → None ≡ Some f → X
 no_some f e = let no : ⊥ = cc in absurd no
 
-no_refusal : (f : Refusal) → Some fault.Memory ≡ Some (fault_of f) → ⊥
+no_refusal : (f : DocumentRefusal) → Some fault.Memory ≡ Some (fault_of f) → ⊥
 no_refusal (AtSyntax k) e = cc
 no_refusal (AtDepth k) e = cc
 no_refusal (AtName k) e = cc
@@ -51,12 +51,12 @@ no_memory lim b ended (past_limit h w o) = let no : ⊥ = cc in no
 -- ---- a whole document
 
 -- The bytes spell a document, and the tree of the tags seen in them is its tree.
-pub record SeenWhole (b : List ℕ) (ts : List Token) : Type 0 where
+pub record SeenWhole (b : List ℕ) (ts : List TreeToken) : Type 0 where
   pub document : Nodes
   pub spells : BytesSpell b document
   pub tree_is : seen_tree ts ≡ tree_of document
 
-pub seen_document : (lim : Limits) (b : List ℕ) (ts : List Token) → FaultIs lim b true None → SeenIs lim b true ts → SeenWhole b ts
+pub seen_document : (lim : Limits) (b : List ℕ) (ts : List TreeToken) → FaultIs lim b true None → SeenIs lim b true ts → SeenWhole b ts
 seen_document lim b ts clean seen =
     let w = whole_of lim b clean in
     let r = clean_reads lim w.cs w.clean in
@@ -72,7 +72,7 @@ seen_document lim b ts clean seen =
     record {
       document = d.0;
       spells = record { chars = w.cs; characters = w.decodes.chars; encoded = w.decodes.parts ∙ append-nil (encodes w.cs); spells = d.1 };
-      tree_is = ap seen_tree (said ∙ ap (λ (l : List Token). l ++ (End ∷ [])) d.2);
+      tree_is = ap seen_tree (said ∙ ap (λ (l : List TreeToken). l ++ (End ∷ [])) d.2);
     }
 
 pub one_spelled : (b : List ℕ) (d e : Nodes) → BytesSpell b d → BytesSpell b e → d ≡ e

@@ -6,7 +6,7 @@ use Rattle.gcx_io.specs.Writing.{Takes, Owes}
 use Rattle.gcx_model.specs.Query.{ExprTree}
 use Rattle.gcx_words.specs.declared.command.Command.{Command}
 use Rattle.gcx_words.specs.declared.command.Command.TheVariants.{Explain, Gen}
-use Rattle.run_words.specs.Stops.{End}
+use Rattle.run_words.specs.Stops.{EndAnswered}
 use Rattle.run_words.specs.Writing.{TakesFront}
 use Rattle.gcx_cmd.proofs.Along.{keeps_same}
 use Rattle.gcx_cmd.proofs.Stops.{keeps_of, untouched}
@@ -14,7 +14,7 @@ use Rattle.gcx_cmd.specs.Does.{DoesIf}
 use Rattle.gcx_cmd.specs.ExplainDoes.{ExplainDoes}
 use Rattle.gcx_cmd.specs.Keeps.{HasCauses, Keeps}
 use Rattle.gcx_cmd.specs.Main.{HasNoMemory}
-use Rattle.gcx_cmd.specs.Outside.{StoreView, WritesAlone, beside}
+use Rattle.gcx_cmd.specs.World.{StoreView, WritesAlone, beside}
 use Rattle.gcx_cmd.specs.QueryDoes.{AcceptsQuery}
 use Rattle.gcx_cmd.specs.Reads.{KeepsShelf, Opens}
 use Rattle.gcx_cmd.specs.Texts.{explain_text}
@@ -69,7 +69,7 @@ module _ (q : List ℕ) (a b : ShelfView) (o p e : SinkView) (st : StoreView) (x
   pub explain_lacks : DoesIf (Some (Explain q)) status.Memory (beside a o e st) (beside b o e st)
   explain_lacks = (
     keeps_of (Explain q) status.Memory (beside a o e st) (beside b o e st) k (omega arith) (omega arith) tt tt,
-    (untouched a b o e st, inr (one, accepted.pieces, End, accepted.reads, inl (tt, accepted.within))),
+    (untouched a b o e st, inr (one, accepted.pieces, EndAnswered, accepted.reads, inl (tt, accepted.within))),
   )
 
 -- ---- gen

@@ -5,7 +5,7 @@ use Rattle.gcx_io.specs.Causes.{Rose}
 use Rattle.gcx_io.specs.Views.{ShelfView, SourceView}
 use Rattle.gcx_io.specs.Writing.{joined}
 use Rattle.run_words.specs.Reading.{CountsFault}
-use Rattle.run_words.specs.Stops.{Stop, End, Fault, IsCalm, is_end}
+use Rattle.run_words.specs.Stops.{Stop, EndAnswered, FaultAnswered, IsCalm, is_end}
 use Rattle.time_laws.specs.Checking.{Yes, No, ReadFault, Judges}
 use Rattle.trace_check.specs.Judging.{JudgesSource}
 use Rattle.trace_check.specs.declared.checked.Checked.{Checked}
@@ -32,12 +32,12 @@ module _ (t text : List ℕ) (s u : SourceView) where
 
     pub judged_does : (r : Checked) → JudgesSource text r s u → TraceDoes t text (verdict r) a b
     judged_does (checked.Yes lines) j =
-        over (checked.Yes lines) j (λ ps stop. (stop ≡ End) × Judges text (Yes lines) (joined ps) true)
+        over (checked.Yes lines) j (λ ps stop. (stop ≡ EndAnswered) × Judges text (Yes lines) (joined ps) true)
         (j.stops, subst (λ (z : Stop). Judges text (Yes lines) (joined j.pieces) (is_end z)) j.stops j.judged)
     judged_does (checked.No line) j =
         over (checked.No line) j (λ ps stop. IsCalm stop × Judges text (No line) (joined ps) (is_end stop)) (j.stops, j.judged)
     judged_does checked.ReadFault j =
-        inr (over checked.ReadFault j (λ ps stop. (stop ≡ Fault) × Judges text ReadFault (joined ps) false)
+        inr (over checked.ReadFault j (λ ps stop. (stop ≡ FaultAnswered) × Judges text ReadFault (joined ps) false)
         (j.stops, subst (λ (z : Stop). Judges text ReadFault (joined j.pieces) (is_end z)) j.stops j.judged))
     judged_does checked.Memory j = inr (over checked.Memory j IsUnread j.stops)
 

@@ -20,8 +20,8 @@ use Rattle.gcx_words.specs.Pairs.{are_apart}
 use Rattle.gcx_words.proofs.Apart.{apart_others}
 use Rattle.gcx_words.specs.declared.pairs.Pair.{Pair}
 use Rattle.doc_laws.proofs.Pieces.{fault_stays}
-use Rattle.run_words.specs.Ends.{RunEnd, Whole}
-use Rattle.run_words.specs.Stops.{End, Fault, IsCalm, More, Stop, is_end}
+use Rattle.run_words.specs.Ends.{RunEnd, Completed}
+use Rattle.run_words.specs.Stops.{EndAnswered, FaultAnswered, IsCalm, More, Stop, is_end}
 use Rattle.tree_read.specs.Document.{BytesSpell}
 use Rattle.xq_parse.specs.Spelling.{QuerySpells}
 use Rattle.many_run.specs.Files.{HaveOtherNames, NamesStay, bytes_in, name_of_handle}
@@ -108,7 +108,7 @@ module _ (d : List ℕ) (ps : List Pair) (apart : are_apart d ps ≡ true) (end 
       let same : r.run.gave.old ≡ fresh d (content_of r.made.names d) = some_is (slice_get r.begun.given r.doc.0) r.run.gave.old (fresh d (content_of r.made.names d)) r.run.gave.was opened in
       subst (λ (o : Option (List ℕ)). Consumes o r.run.gave.new.left (joined r.run.pieces)) (ap (λ (v : HandleView). v.left) same ∙ (doc_held ∙ told)) (r.run.gave.told telling)
 
-  pub doc_whole : (bytes : List ℕ) → content_of a.names d ≡ Some bytes → r.run.stop ≡ End → bytes ≡ joined r.run.pieces
+  pub doc_whole : (bytes : List ℕ) → content_of a.names d ≡ Some bytes → r.run.stop ≡ EndAnswered → bytes ≡ joined r.run.pieces
   doc_whole bytes told at_end = given_all bytes (joined r.run.pieces) r.run.gave.new.left (doc_left bytes told) (r.run.gave.at_end telling at_end)
 
   -- a refusal is of the bytes of DOC
@@ -116,11 +116,11 @@ module _ (d : List ℕ) (ps : List Pair) (apart : are_apart d ps ≡ true) (end 
   doc_refused f why bytes told = go r.run.stop refl why
     where
       go : (stop : Stop) → r.run.stop ≡ stop → IsCalm stop × FaultIs full_limits (joined r.run.pieces) (is_end stop) (Some f) → FaultIs full_limits bytes true (Some f)
-      go End is w = subst (λ (l : List ℕ). FaultIs full_limits l true (Some f)) (sym (doc_whole bytes told is)) w.1
+      go EndAnswered is w = subst (λ (l : List ℕ). FaultIs full_limits l true (Some f)) (sym (doc_whole bytes told is)) w.1
       go More is w =
           let part = given_part bytes (joined r.run.pieces) r.run.gave.new.left (doc_left bytes told) in
           subst (λ (l : List ℕ). FaultIs full_limits l true (Some f)) (sym part.1) (fault_stays full_limits (joined r.run.pieces) part.0 true f w.1)
-      go Fault is w = absurd w.0
+      go FaultAnswered is w = absurd w.0
 
 -- ---- the OUTs of a run that ended well
 
@@ -169,7 +169,7 @@ holds_text (Some x) (Some y) n text P stay empty grew telling = go (y n) refl
         absurd no
     go (Some z) is = is ∙ ap Some (sym (ap (λ (o : Option (List ℕ)). unwrap_or o []) is) ∙ (grew ∙ ap (λ (l : List ℕ). l ++ text) nothing))
 
-module _ (d : List ℕ) (ps : List Pair) (apart : are_apart d ps ≡ true) (a b : ShelfView) (r : RunsMany d ps Whole a b) (w : TakeAnswers r.xs r.outs r.run.pieces r.begun b) (telling : IsTelling b.names) where
+module _ (d : List ℕ) (ps : List Pair) (apart : are_apart d ps ≡ true) (a b : ShelfView) (r : RunsMany d ps Completed a b) (w : TakeAnswers r.xs r.outs r.run.pieces r.begun b) (telling : IsTelling b.names) where
   -- at Ok each OUT holds the answer of its QUERY
   pub out_holds : (i : ℕ) (p : Pair) (query_bytes document_bytes : List ℕ) → slice_get ps i ≡ Some p → content_of a.names p.query ≡ Some query_bytes → content_of a.names d ≡ Some document_bytes
       → (q : List ExprTree) (doc : Nodes) → Accepts query_bytes q → BytesSpell document_bytes doc → content_of b.names p.out ≡ Some (answer q doc)
@@ -183,12 +183,12 @@ module _ (d : List ℕ) (ps : List Pair) (apart : are_apart d ps ≡ true) (a b 
       let text = answer x.0 w.doc in
       let took = w.each i o.0 x.0 o.1 x.1 in
       let same : q ≡ x.0 = read_as ps r.xs a r.accepted r.accepts i p x.0 is_p x.1 query_bytes told_q q accepted.spells in
-      let whole : document_bytes ≡ joined r.run.pieces = doc_whole d ps apart Whole a b r telling document_bytes told_d r.run.stops.0 in
+      let whole : document_bytes ≡ joined r.run.pieces = doc_whole d ps apart Completed a b r telling document_bytes told_d r.run.stops.0 in
       let one : doc ≡ w.doc = w.spells.only doc (subst (λ (l : List ℕ). BytesSpell l doc) whole spelled) in
       let named = outs_named d ps apart r.outs r.accepted r.made r.begun r.makes r.doc r.opens.0 i o.0 o.1 in
       let name : name_of_handle r.begun.given o.0.0 ≡ Some p.out = named.2 ∙ ap (λ (y : Pair). Some y.out) (some_is (slice_get ps i) named.0 p named.1 is_p) in
       let empty : content_of r.begun.names p.out ≡ Some []
-      = ap (λ (z : Names). content_of z p.out) r.opens.1 ∙ made_empty ps r.outs r.accepted r.made r.makes (λ j k y z is_y is_z other same. apart_others d ps apart j k y z is_y is_z other same) (telling_made d ps apart Whole a b r telling) i p is_p in
+      = ap (λ (z : Names). content_of z p.out) r.opens.1 ∙ made_empty ps r.outs r.accepted r.made r.makes (λ j k y z is_y is_z other same. apart_others d ps apart j k y z is_y is_z other same) (telling_made d ps apart Completed a b r telling) i p is_p in
       let grew : Grows (bytes_in r.begun.names (Some p.out)) (bytes_in b.names (Some p.out)) text
       = subst (λ (m : Option (List ℕ)). Grows (bytes_in r.begun.names (Some p.out)) (bytes_in b.names m) text) (r.run.others.names_of o.0.0 ∙ name)
       (subst (λ (m : Option (List ℕ)). Grows (bytes_in r.begun.names m) (bytes_in b.names (name_of_handle b.given o.0.0)) text) name took.told) in

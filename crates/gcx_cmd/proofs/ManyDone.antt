@@ -15,7 +15,7 @@ use Rattle.gcx_cmd.specs.Does.{DoesIf}
 use Rattle.gcx_cmd.specs.Keeps.{HasCauses, Keeps}
 use Rattle.gcx_cmd.specs.Main.{HasNoMemory}
 use Rattle.gcx_cmd.specs.ManyDoes.{AcceptsPlans, CausesAny, ManyEnds, ManyKeeps, StopsInQueries}
-use Rattle.gcx_cmd.specs.Outside.{StoreView, beside}
+use Rattle.gcx_cmd.specs.World.{StoreView, beside}
 use Rattle.gcx_cmd.specs.Reads.{CausesFault}
 use Rattle.gcx_cmd.specs.declared.status.Status.{Status}
 use Rattle.gcx_cmd.specs.declared.status.Status.TheVariants as status

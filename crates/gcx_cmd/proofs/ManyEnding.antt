@@ -15,7 +15,7 @@ use Rattle.gcx_model.specs.Query.{ExprTree}
 use Rattle.gcx_model.specs.declared.plan.Plan.{Plan}
 use Rattle.gcx_words.specs.declared.pairs.Pair.{Pair}
 use Rattle.run_words.proofs.Mapping.{ends_map}
-use Rattle.run_words.specs.Ends.{AtEnd, LastPiece, NoMemory, ReadFailed, Refused, RunEnd, SettlesBefore, Unread, Whole, WriteFailed}
+use Rattle.run_words.specs.Ends.{AtEnd, LastPiece, NoMemory, ReadFailed, Refused, RunEnd, SettlesBefore, Unread, Completed, WriteFailed}
 use Rattle.run_words.specs.Reading.{CountsFault}
 use Rattle.run_words.specs.Stops.{Stop}
 use Rattle.engine.specs.Engine.{IsTrace as PlanTrace, Settles as PlanSettles}
@@ -31,7 +31,7 @@ use Rattle.gcx_cmd.proofs.Manies.{MadeOuts, made_outs}
 use Rattle.gcx_cmd.proofs.Runs.{settles_on, trace_on}
 use Rattle.gcx_cmd.specs.Reads.{CausesFault}
 use Rattle.gcx_model.specs.declared.fault.DocFault.{DocFault}
-use Rattle.gcx_model.specs.declared.fault.DocFault.TheVariants.{Memory}
+use Rattle.gcx_model.specs.declared.fault.DocFault.TheVariants as doc_faults
 use Rattle.gcx_cmd.specs.Main.{HasNoMemory}
 use Rattle.gcx_cmd.specs.ManyDoes.{AcceptsPlans, EachQueryEnds, FailsAtOut, HasMade, MakesOuts, ManyEnds, RunsMany, RunsPlans, StopsInOuts}
 use Rattle.gcx_cmd.specs.ReadEnd.{attach_status}
@@ -51,7 +51,7 @@ module _ (x : List ExprTree) (plan : PlanTree) (is : IsPlanOf x plan) where
 
   one_on : (end : RunEnd) (ps : List (List ℕ)) (stop : Stop) (at i : ℕ) (a b : SinkView) → EndsOne (PlanSettles plan full_limits) (PlanTrace plan full_limits) full_limits end ps stop at i a b
       → EndsOne (Settles x) (IsQueryTrace x) full_limits end ps stop at i a b
-  one_on Whole ps stop at i a b h = ends_map _ _ _ _ (settles_on x plan is) (trace_on x plan is) full_limits false Whole ps stop (alone a) (alone b) h
+  one_on Completed ps stop at i a b h = ends_map _ _ _ _ (settles_on x plan is) (trace_on x plan is) full_limits false Completed ps stop (alone a) (alone b) h
   one_on (Refused f) ps stop at i a b h = ends_map _ _ _ _ (settles_on x plan is) (trace_on x plan is) full_limits false (Refused f) ps stop (alone a) (alone b) h
   one_on ReadFailed ps stop at i a b h = ends_map _ _ _ _ (settles_on x plan is) (trace_on x plan is) full_limits false ReadFailed ps stop (alone a) (alone b) h
   one_on WriteFailed ps stop at i a b h = record {
@@ -140,7 +140,7 @@ module _ (d : List ℕ) (ps : List Pair) (a m : ShelfView) (plans : List Plan) (
       }
 
       ends_by : (x : Ended) → RunsInto (EachPlanEnds plans full_limits (run_end x)) full_limits (run_end x) doc outs begun b → ManyEnds d ps (ended_status x) a b
-      ends_by ends.Ok r = let m = runs Whole r in (m, many_answers d ps a b m)
+      ends_by ends.Ok r = let m = runs Completed r in (m, many_answers d ps a b m)
       ends_by (ends.Refused f) r = runs (Refused f) r
       ends_by ends.ReadFault r = inr (runs ReadFailed r)
       ends_by ends.WriteFault r = inr (runs WriteFailed r)
@@ -151,7 +151,7 @@ module _ (d : List ℕ) (ps : List Pair) (a m : ShelfView) (plans : List Plan) (
 
 -- an attach that failed for this reason
 -- no refusal is want of memory
-pub lasts_by : (x : Ended) (s : Status) → s ≡ ended_status x → ((f : DocFault) → x ≡ ends.Refused f → f ≡ Memory → ⊥) → HasNoMemory s
+pub lasts_by : (x : Ended) (s : Status) → s ≡ ended_status x → ((f : DocFault) → x ≡ ends.Refused f → f ≡ doc_faults.Memory → ⊥) → HasNoMemory s
 lasts_by ends.Ok s is lasts = subst (λ (t : Status). HasNoMemory t) (sym is) tt
 lasts_by (ends.Refused f) s is lasts = subst (λ (t : Status). HasNoMemory t) (sym is) (lasts f refl)
 lasts_by ends.ReadFault s is lasts = subst (λ (t : Status). HasNoMemory t) (sym is) tt

@@ -29,7 +29,7 @@ use Rattle.gcx_cmd.proofs.FileRead.{FileRead}
 use Rattle.gcx_cmd.proofs.Says.{given_all, read_all}
 use Rattle.gcx_cmd.specs.DocumentDoes.{OverDoc, IsClean}
 use Rattle.gcx_cmd.specs.Main.{Accepts}
-use Rattle.gcx_cmd.specs.Outside.{Outside, StoreView}
+use Rattle.gcx_cmd.specs.World.{World, StoreView}
 use Rattle.gcx_cmd.specs.Reads.{Reads}
 use Rattle.gcx_cmd.specs.RunDoes.{EndsBy, HoldsSeen, RunDoes}
 use Rattle.gcx_cmd.specs.Running.{Settles, UnlessOutOfMemory}
@@ -42,7 +42,7 @@ use Rattle.gcx_cmd.specs.declared.status.Status.TheVariants as status
 -- ---- the answer
 
 -- of `run`: at Ok the answer of each query and document that the bytes spell
-pub run_written : (tracing : Bool) (ahead : ℕ) (q d query_bytes document_bytes : List ℕ) (x : List ExprTree) (doc : Nodes) (a b : Outside)
+pub run_written : (tracing : Bool) (ahead : ℕ) (q d query_bytes document_bytes : List ℕ) (x : List ExprTree) (doc : Nodes) (a b : World)
     → content_of a.shelf.names q ≡ Some query_bytes → content_of a.shelf.names d ≡ Some document_bytes → Accepts query_bytes x → BytesSpell document_bytes doc
     → RunDoes tracing ahead q d status.Ok a b → Takes a.out b.out (answer x doc)
 run_written tracing ahead q d query_bytes document_bytes x doc a b told_q told_d accepted spelled (r, empty, w) =

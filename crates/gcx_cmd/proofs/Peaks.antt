@@ -3,10 +3,10 @@ use Rattle.std.proofs.Common.{◌≡◌, inl, inr, ℕ, ◌≤◌, List, ◌++�
 use Rattle.std.specs.FinMap as map
 use Rattle.gcx_io.specs.Views.{ShelfView, SinkView}
 use Rattle.gcx_model.specs.Query.{ExprTree}
-use Rattle.gcx_model.specs.Tree.{Token}
+use Rattle.gcx_model.specs.Tree.{TreeToken}
 use Rattle.gcx_words.specs.declared.command.Command.{Command}
 use Rattle.gcx_words.specs.declared.command.Command.TheVariants.{Peak, Selfrun}
-use Rattle.run_words.specs.Stops.{Stop, End, IsCalm}
+use Rattle.run_words.specs.Stops.{Stop, EndAnswered, IsCalm}
 use Rattle.engine.specs.declared.report.Report.{Report}
 use Rattle.gcx_cmd.proofs.Along.{keeps_same}
 use Rattle.gcx_cmd.proofs.Behind.{accepted_kept, both_keep, cause_later, doc_later, misses_later, opens_still, opens_two}
@@ -15,7 +15,7 @@ use Rattle.gcx_cmd.specs.Does.{DoesIf}
 use Rattle.gcx_cmd.specs.DocumentDoes.{Over, OverDoc, IsClean, SeesTokens}
 use Rattle.gcx_cmd.specs.Keeps.{HasCauses}
 use Rattle.gcx_cmd.specs.Main.{HasNoMemory}
-use Rattle.gcx_cmd.specs.Outside.{StoreView, Untouched, WritesAlone, beside}
+use Rattle.gcx_cmd.specs.World.{StoreView, Untouched, WritesAlone, beside}
 use Rattle.gcx_cmd.specs.PeakDoes.{PeakDoes}
 use Rattle.gcx_cmd.specs.QueryDoes.{AcceptsQuery}
 use Rattle.gcx_cmd.specs.Reads.{CausesFault, KeepsShelf, Opens}
@@ -56,7 +56,7 @@ same_peak : (p q n m g h t u : ℕ) → p ≡ q → n ≡ m → g ≡ h → t �
 same_peak p q n m g h t u peaks nodes givens takens =
     ap (λ (x : ℕ). peak_line x n g t) peaks ∙ ap (λ (x : ℕ). peak_line q x g t) nodes ∙ ap (λ (x : ℕ). peak_line q m x t) givens ∙ ap (λ (x : ℕ). peak_line q m h x) takens
 
-peak_is : (x : List ExprTree) (ts : List Token) (r : Report) → NumbersOf x ts r → peak_line r.peak r.nodes r.given r.taken ≡ peak_text x ts
+peak_is : (x : List ExprTree) (ts : List TreeToken) (r : Report) → NumbersOf x ts r → peak_line r.peak r.nodes r.given r.taken ≡ peak_text x ts
 peak_is x ts r n = same_peak _ _ _ _ _ _ _ _ n.peak n.nodes n.given n.taken
 
 module _ (q d : List ℕ) (a m b : ShelfView) (x : List ExprTree) (one : Opens 1 a m) (accepted : AcceptsQuery q a m x) (k : KeepsShelf a m) (l : KeepsShelf m b)
@@ -105,7 +105,7 @@ module _ (q d : List ℕ) (a m b : ShelfView) (x : List ExprTree) (one : Opens 1
           inr (
             opens_still q a m b x one accepted k l none,
             (accepted_kept q a m b x one accepted k l).pieces,
-            End,
+            EndAnswered,
             (accepted_kept q a m b x one accepted k l).reads,
             inl (tt, (accepted_kept q a m b x one accepted k l).within),
           ),

@@ -9,7 +9,7 @@ use Rattle.gcx_cmd.specs.Accepted.{IsAcceptedOf, EndsQuery}
 use Rattle.gcx_cmd.specs.QueryDoes.{AcceptsQuery, ReadsText, StopsInQuery}
 use Rattle.gcx_cmd.specs.Reads.{Opens}
 use Rattle.gcx_io.specs.Views.{ShelfView}
-use Rattle.run_words.specs.Stops.{End}
+use Rattle.run_words.specs.Stops.{EndAnswered}
 use Rattle.gcx_cmd.specs.declared.query.Accepted.{Accepted}
 use Rattle.gcx_cmd.specs.declared.status.Status.{Status}
 use Rattle.signoff_place.specs.Refused.{refusal_of}
@@ -72,7 +72,7 @@ stops_text q text a b (status.QueryRefused f) one r says ends =
 stops_text q text a b (status.DocumentRefused f) one r says ends = absurd ends
 stops_text q text a b status.ReadFault one r says ends = absurd ends
 stops_text q text a b status.WriteFault one r says ends = absurd ends
-stops_text q text a b status.Memory one r says ends = inr (one, r.pieces, End, r.reads, inl (tt, r.within))
+stops_text q text a b status.Memory one r says ends = inr (one, r.pieces, EndAnswered, r.reads, inl (tt, r.within))
 stops_text q text a b (status.TraceRefused n) one r says ends = absurd ends
 
 pub no_read_fault : (s : Status) → EndsQuery s → s ≡ status.ReadFault → ⊥

@@ -8,7 +8,7 @@ use Rattle.gcx_io.specs.Views.{ShelfView}
 use Rattle.gcx_io.specs.Writing.{joined}
 use Rattle.gcx_model.specs.declared.fault.QueryFault.TheVariants.{TooLarge}
 use Rattle.gcx_model.specs.declared.fault.What.TheVariants.{Text}
-use Rattle.run_words.specs.Stops.{More, End, Fault}
+use Rattle.run_words.specs.Stops.{More, EndAnswered, FaultAnswered}
 use Rattle.gcx_cmd.proofs.Along.{opens_one, opens_on, reads_none, reads_more, reads_end, reads_fault, keeps_given, keeps_read, within_or_passes, passes}
 use Rattle.gcx_cmd.specs.QueryDoes.{ReadsText, FailsInText, RefusesText, RunsOutInText}
 use Rattle.gcx_cmd.specs.Reads.{ReadsQuery, Opens, KeepsShelf, Within, PassesIn, Calmly, most_of_query}
@@ -52,7 +52,7 @@ ends {E = E} name text h n a b c buf r more none small size =
       opens_on 1 h a b c (Ok 0) buf r.opens once,
       record {
         pieces = r.pieces;
-        reads = subst (λ (k : ℕ). ReadsQuery name k a c r.pieces End) r.number (reads_end 4096 name h a b c buf r.pieces r.reads once (omega (arith, size)) size);
+        reads = subst (λ (k : ℕ). ReadsQuery name k a c r.pieces EndAnswered) r.number (reads_end 4096 name h a b c buf r.pieces r.reads once (omega (arith, size)) size);
         within = omega (arith, small, ap length r.whole);
         whole = r.whole;
       },
@@ -64,7 +64,7 @@ fails name text h e a b c buf r once small =
     inr (
       opens_on 1 h a b c (Err e) buf r.opens once,
       r.pieces,
-      subst (λ (k : ℕ). ReadsQuery name k a c r.pieces Fault) r.number (reads_fault 4096 name h e a b c buf r.pieces r.reads once),
+      subst (λ (k : ℕ). ReadsQuery name k a c r.pieces FaultAnswered) r.number (reads_fault 4096 name h e a b c buf r.pieces r.reads once),
       omega (arith, small, ap length r.whole),
     )
 

@@ -5,7 +5,7 @@ use Rattle.gcx_io.specs.Causes.{Rose}
 use Rattle.gcx_io.specs.Views.{ShelfView}
 use Rattle.gcx_model.specs.Query.{ExprTree}
 use Rattle.gcx_words.specs.declared.command.Command.TheVariants.{Run}
-use Rattle.run_words.specs.Stops.{End}
+use Rattle.run_words.specs.Stops.{EndAnswered}
 use Rattle.gcx_cmd.proofs.Answering.{run_answers}
 use Rattle.gcx_cmd.proofs.Behind.{accepted_kept, both_keep, cause_later, doc_later, misses_later, opens_still, opens_two}
 use Rattle.gcx_cmd.proofs.Stops.{keeps_of, lacks}
@@ -13,7 +13,7 @@ use Rattle.gcx_cmd.specs.Does.{DoesIf}
 use Rattle.gcx_cmd.specs.DocumentDoes.{OverDoc}
 use Rattle.gcx_cmd.specs.Keeps.{HasCauses}
 use Rattle.gcx_cmd.specs.Main.{HasNoMemory}
-use Rattle.gcx_cmd.specs.Outside.{Outside, Untouched, sinks_of}
+use Rattle.gcx_cmd.specs.World.{World, Untouched, sinks_of}
 use Rattle.gcx_cmd.specs.QueryDoes.{AcceptsQuery}
 use Rattle.gcx_cmd.specs.Reads.{CausesFault, KeepsShelf, Opens}
 use Rattle.gcx_cmd.specs.RunDoes.{EndsBy, HoldsSeen, RunDoes, Runs}
@@ -22,9 +22,9 @@ use Rattle.gcx_cmd.specs.Runs.{DocumentRuns}
 use Rattle.gcx_cmd.specs.declared.status.Status.{Status}
 use Rattle.gcx_cmd.specs.declared.status.Status.TheVariants as status
 
-module _ (tracing : Bool) (ahead : ℕ) (q d : List ℕ) (a b : Outside) (m : ShelfView) (x : List ExprTree) (one : Opens 1 a.shelf m)
+module _ (tracing : Bool) (ahead : ℕ) (q d : List ℕ) (a b : World) (m : ShelfView) (x : List ExprTree) (one : Opens 1 a.shelf m)
     (accepted : AcceptsQuery q a.shelf m x) (k : KeepsShelf a.shelf m) (l : KeepsShelf m b.shelf) where
-  abbrev begun : Outside
+  abbrev begun : World
   begun = record { shelf = m; out = a.out; err = a.err; store = a.store }
 
   runs : (s : Status) → OverDoc d (λ ps stop. EndsBy x tracing s ps stop (sinks_of begun) (sinks_of b) × UnlessOutOfMemory s (HoldsSeen x ahead ps stop b.store)) m b.shelf
@@ -61,7 +61,7 @@ module _ (tracing : Bool) (ahead : ℕ) (q d : List ℕ) (a b : Outside) (m : Sh
         inr (
           opens_still q a.shelf m b.shelf x one accepted k l none,
           (accepted_kept q a.shelf m b.shelf x one accepted k l).pieces,
-          End,
+          EndAnswered,
           (accepted_kept q a.shelf m b.shelf x one accepted k l).reads,
           inl (tt, (accepted_kept q a.shelf m b.shelf x one accepted k l).within),
         ),

@@ -14,9 +14,9 @@ use Rattle.gcx_words.specs.Words.{command_of}
 use Rattle.gcx_words.specs.declared.command.Command.{Command}
 use Rattle.gcx_words.specs.declared.command.Command.TheVariants.{Run}
 use Rattle.run_words.specs.Reading.{ReadsOn}
-use Rattle.run_words.specs.Stops.{Stop, More, End, Fault, last_call, IsCalm}
+use Rattle.run_words.specs.Stops.{Stop, More, EndAnswered, FaultAnswered, last_call, IsCalm}
 use Rattle.gcx_cmd.specs.Does.{DoesIf, Does}
-use Rattle.gcx_cmd.specs.Outside.{Outside}
+use Rattle.gcx_cmd.specs.World.{World}
 use Rattle.gcx_cmd.specs.QueryDoes.{RefusesText, FailsInText, RunsOutInText, MissesDocument}
 use Rattle.gcx_cmd.specs.Reads.{Reads, ReadsAsking, ReadsQuery, Opens, Misses, Within, PassesIn, most_of_query}
 use Rattle.gcx_cmd.specs.RunDoes.{RunDoes, Runs}
@@ -26,30 +26,30 @@ use Rattle.gcx_cmd.specs.declared.status.Status.TheVariants as status
 -- what a status says of how a reading stopped: a read fault exactly where it failed
 abbrev pub IsTold : Stop → Status → Type 0
 IsTold More s = s ≢ status.ReadFault
-IsTold End s = s ≢ status.ReadFault
-IsTold Fault s = s ≡ status.ReadFault
+IsTold EndAnswered s = s ≢ status.ReadFault
+IsTold FaultAnswered s = s ≡ status.ReadFault
 
 -- all that can have happened to the files
 pub data Shape (q d : List ℕ) (s : Status) (a b : ShelfView) : Type 0 where
   Nothing : s ≢ status.ReadFault → Opens 0 a b → Shape q d s a b
   NoQuery : s ≡ status.ReadFault → Misses 0 q a b → Shape q d s a b
   Query : (ps : List (List ℕ)) (stop : Stop) → IsTold stop s → Opens 1 a b → ReadsQuery q (length a.given) a b ps stop → Within ps ⊎ ((stop ≡ More) × PassesIn ps) → Shape q d s a b
-  NoDoc : (ps : List (List ℕ)) → s ≡ status.ReadFault → Misses 1 d a b → ReadsQuery q (length a.given) a b ps End → Within ps → Shape q d s a b
-  Both : (qs ps : List (List ℕ)) (stop : Stop) → IsTold stop s → Opens 2 a b → ReadsQuery q (length a.given) a b qs End → Within qs → Reads d (length a.given + 1) a b ps stop → Shape q d s a b
+  NoDoc : (ps : List (List ℕ)) → s ≡ status.ReadFault → Misses 1 d a b → ReadsQuery q (length a.given) a b ps EndAnswered → Within ps → Shape q d s a b
+  Both : (qs ps : List (List ℕ)) (stop : Stop) → IsTold stop s → Opens 2 a b → ReadsQuery q (length a.given) a b qs EndAnswered → Within qs → Reads d (length a.given + 1) a b ps stop → Shape q d s a b
 
-both_shape : (tracing : Bool) (ahead : ℕ) (q d : List ℕ) (s : Status) (a b : Outside) (r : Runs tracing ahead q d s a b) → IsTold r.stop s → Shape q d s a.shelf b.shelf
+both_shape : (tracing : Bool) (ahead : ℕ) (q d : List ℕ) (s : Status) (a b : World) (r : Runs tracing ahead q d s a b) → IsTold r.stop s → Shape q d s a.shelf b.shelf
 both_shape tracing ahead q d s a b r told =
     Both r.over.query.pieces r.pieces r.stop told r.over.two r.over.query.reads r.over.query.within r.over.doc
 
 -- no read failed, where the status isn't that of a read fault
 calm_told : (stop : Stop) (s : Status) → s ≢ status.ReadFault → IsCalm stop → IsTold stop s
 calm_told More s other calm = other
-calm_told End s other calm = other
-calm_told Fault s other calm = absurd calm
+calm_told EndAnswered s other calm = other
+calm_told FaultAnswered s other calm = absurd calm
 
 fails_shape : (q d : List ℕ) (a b : ShelfView) → FailsInText q a b → Shape q d status.ReadFault a b
 fails_shape q d a b (inl gone) = NoQuery refl gone
-fails_shape q d a b (inr (one, ps, reads, within)) = Query ps Fault refl one reads (inl within)
+fails_shape q d a b (inr (one, ps, reads, within)) = Query ps FaultAnswered refl one reads (inl within)
 
 misses_shape : (q d : List ℕ) (a b : ShelfView) → MissesDocument q (Some d) a b → Shape q d status.ReadFault a b
 misses_shape q d a b (n, e, gone, x, accepted) =
@@ -57,7 +57,7 @@ misses_shape q d a b (n, e, gone, x, accepted) =
 
 refused_shape : (q d : List ℕ) (f : QueryFault) (a b : ShelfView) → RefusesText q f a b → Shape q d (status.QueryRefused f) a b
 refused_shape q d f a b r = elim r.why [
-  | inl whole ↦ Query r.pieces End (λ e. cc) r.opens whole.0 (inl whole.1)
+  | inl whole ↦ Query r.pieces EndAnswered (λ e. cc) r.opens whole.0 (inl whole.1)
   | inr long ↦ Query r.pieces More (λ e. cc) r.opens long.0 (inr (refl, long.1))
 ]
 
@@ -67,7 +67,7 @@ out_shape q d a b (inr (one, ps, stop, reads, inl (calm, within))) = Query ps st
 out_shape q d a b (inr (one, ps, stop, reads, inr (more, passes))) =
     Query ps stop (subst (λ (t : Stop). IsTold t status.Memory) (sym more) (λ e. cc)) one reads (inr (more, passes))
 
-run_shape : (tracing : Bool) (ahead : ℕ) (q d : List ℕ) (s : Status) (a b : Outside) → RunDoes tracing ahead q d s a b → Shape q d s a.shelf b.shelf
+run_shape : (tracing : Bool) (ahead : ℕ) (q d : List ℕ) (s : Status) (a b : World) → RunDoes tracing ahead q d s a b → Shape q d s a.shelf b.shelf
 run_shape tracing ahead q d status.Ok a b r = both_shape tracing ahead q d status.Ok a b r.0 (subst (λ (t : Stop). IsTold t status.Ok) (sym r.0.ends.0) (λ e. cc))
 run_shape tracing ahead q d status.Usage a b r = absurd r
 run_shape tracing ahead q d (status.QueryRefused f) a b r = refused_shape q d f a.shelf b.shelf r.1
@@ -83,7 +83,7 @@ run_shape tracing ahead q d status.Memory a b (inr r) = both_shape tracing ahead
 run_shape tracing ahead q d (status.TraceRefused n) a b r = absurd r
 
 -- whatever the status, the files saw one of these
-pub shape : (tracing : Bool) (ahead : ℕ) (words : List (List ℕ)) (q d : List ℕ) (s : Status) (a b : Outside) → command_of words ≡ Some (Run tracing ahead q d)
+pub shape : (tracing : Bool) (ahead : ℕ) (words : List (List ℕ)) (q d : List ℕ) (s : Status) (a b : World) → command_of words ≡ Some (Run tracing ahead q d)
     → Does words s a b → Shape q d s a.shelf b.shelf
 shape tracing ahead words q d s a b asked does =
     let done : DoesIf (Some (Run tracing ahead q d)) s a does.between = subst (λ (o : Option Command). DoesIf o s a does.between) asked does.done in
@@ -136,12 +136,12 @@ third_file q d s a b (Both qs ps stop told two query within doc) more = absurd (
 pub record IsRead (s : Status) (v : HandleView) : Type 0 where
   pub pieces : List (List ℕ)
   pub stop : Stop
-  pub told : stop ≡ Fault → s ≡ status.ReadFault
+  pub told : stop ≡ FaultAnswered → s ≡ status.ReadFault
   pub some : All IsSomeBytes pieces
   pub asked : ℕ
   pub calls : v.calls ≡ map (Gave asked) pieces ++ last_call asked stop
 
-is_read : {asked : ℕ} (s : Status) (name : List ℕ) (h : ℕ) (a b : ShelfView) (ps : List (List ℕ)) (stop : Stop) (v : HandleView) → (stop ≡ Fault → s ≡ status.ReadFault) → ReadsAsking asked name h a b ps stop → slice_get b.given h ≡ Some v → IsRead s v
+is_read : {asked : ℕ} (s : Status) (name : List ℕ) (h : ℕ) (a b : ShelfView) (ps : List (List ℕ)) (stop : Stop) (v : HandleView) → (stop ≡ FaultAnswered → s ≡ status.ReadFault) → ReadsAsking asked name h a b ps stop → slice_get b.given h ≡ Some v → IsRead s v
 is_read {asked = asked} s name h a b ps stop v told r at =
     let same : r.handle ≡ v = cc (r.at, at) in
     record { pieces = ps; stop = stop; told = told; some = r.some; asked = asked; calls = ap (λ (w : HandleView). w.calls) (sym same) ∙ r.calls }
@@ -155,12 +155,12 @@ handle_read q d s a b k v (Query ps stop told one reads in_limit) new at = elim 
   | inr (inr more) ↦ absurd (slice_get_past b.given k v (omega (arith, one.count, more)) at)
 ]
 handle_read q d s a b k v (NoDoc ps fits gone reads within) new at = elim (cases_order k (length a.given)) [
-  | inl same ↦ is_read s q (length a.given) a b ps End v (λ e. fits) reads (subst (λ (i : ℕ). slice_get b.given i ≡ Some v) same at)
+  | inl same ↦ is_read s q (length a.given) a b ps EndAnswered v (λ e. fits) reads (subst (λ (i : ℕ). slice_get b.given i ≡ Some v) same at)
   | inr (inl less) ↦ absurd (omega (arith, new, less))
   | inr (inr more) ↦ absurd (slice_get_past b.given k v (omega (arith, gone.count, more)) at)
 ]
 handle_read q d s a b k v (Both qs ps stop told two query within doc) new at = elim (cases_order k (length a.given)) [
-  | inl same ↦ is_read s q (length a.given) a b qs End v (λ e. absurd (cc)) query (subst (λ (i : ℕ). slice_get b.given i ≡ Some v) same at)
+  | inl same ↦ is_read s q (length a.given) a b qs EndAnswered v (λ e. absurd (cc)) query (subst (λ (i : ℕ). slice_get b.given i ≡ Some v) same at)
   | inr (inl less) ↦ absurd (omega (arith, new, less))
   | inr (inr more) ↦ (elim (cases_order k (length a.given + 1)) [
     | inl same ↦ is_read s d (length a.given + 1) a b ps stop v (λ e. subst (λ (t : Stop). IsTold t s) e told) doc (subst (λ (i : ℕ). slice_get b.given i ≡ Some v) same at)
@@ -172,10 +172,10 @@ handle_read q d s a b k v (Both qs ps stop told two query within doc) new at = e
 ends_at_fault : (asked : ℕ) (ps : List (List ℕ)) (stop : Stop) (pre : List Call) (c : Call) (rest : List Call) → map (Gave asked) ps ++ last_call asked stop ≡ pre ++ Failed ∷ c ∷ rest → ⊥
 ends_at_fault asked [] More [] c rest e = cc
 ends_at_fault asked [] More (x ∷ pre) c rest e = cc
-ends_at_fault asked [] End [] c rest e = cc
-ends_at_fault asked [] End (x ∷ pre) c rest e = absurd (omega (arith, ap length e, length-append pre (Failed ∷ c ∷ rest)))
-ends_at_fault asked [] Fault [] c rest e = cc
-ends_at_fault asked [] Fault (x ∷ pre) c rest e = absurd (omega (arith, ap length e, length-append pre (Failed ∷ c ∷ rest)))
+ends_at_fault asked [] EndAnswered [] c rest e = cc
+ends_at_fault asked [] EndAnswered (x ∷ pre) c rest e = absurd (omega (arith, ap length e, length-append pre (Failed ∷ c ∷ rest)))
+ends_at_fault asked [] FaultAnswered [] c rest e = cc
+ends_at_fault asked [] FaultAnswered (x ∷ pre) c rest e = absurd (omega (arith, ap length e, length-append pre (Failed ∷ c ∷ rest)))
 ends_at_fault asked (p ∷ ps) stop [] c rest e = cc
 ends_at_fault asked (p ∷ ps) stop (x ∷ pre) c rest e = (let f : map (Gave asked) ps ++ last_call asked stop ≡ pre ++ Failed ∷ c ∷ rest = cc in ends_at_fault asked ps stop pre c rest f)
 
@@ -187,10 +187,10 @@ read_again q d s a b k v pre rest c sh new at e = let r = handle_read q d s a b 
 ends_at_end : (asked n : ℕ) (ps : List (List ℕ)) (stop : Stop) (pre : List Call) (c : Call) (rest : List Call) → All IsSomeBytes ps → map (Gave asked) ps ++ last_call asked stop ≡ pre ++ Gave n [] ∷ c ∷ rest → ⊥
 ends_at_end asked n [] More [] c rest some e = cc
 ends_at_end asked n [] More (x ∷ pre) c rest some e = cc
-ends_at_end asked n [] End [] c rest some e = cc
-ends_at_end asked n [] End (x ∷ pre) c rest some e = absurd (omega (arith, ap length e, length-append pre (Gave n [] ∷ c ∷ rest)))
-ends_at_end asked n [] Fault [] c rest some e = cc
-ends_at_end asked n [] Fault (x ∷ pre) c rest some e = absurd (omega (arith, ap length e, length-append pre (Gave n [] ∷ c ∷ rest)))
+ends_at_end asked n [] EndAnswered [] c rest some e = cc
+ends_at_end asked n [] EndAnswered (x ∷ pre) c rest some e = absurd (omega (arith, ap length e, length-append pre (Gave n [] ∷ c ∷ rest)))
+ends_at_end asked n [] FaultAnswered [] c rest some e = cc
+ends_at_end asked n [] FaultAnswered (x ∷ pre) c rest some e = absurd (omega (arith, ap length e, length-append pre (Gave n [] ∷ c ∷ rest)))
 ends_at_end asked n (p ∷ ps) stop [] c rest some e = (let empty : p ≡ [] = cc in subst IsSomeBytes empty (some 0 [] (omega arith)))
 ends_at_end asked n (p ∷ ps) stop (x ∷ pre) c rest some e = (let f : map (Gave asked) ps ++ last_call asked stop ≡ pre ++ Gave n [] ∷ c ∷ rest = cc in
     ends_at_end asked n ps stop pre c rest (λ k d within. some (suc k) d (omega (arith, within))) f)
@@ -212,8 +212,8 @@ joined_both (p ∷ ps) qs = ap (λ (l : List ℕ). p ++ l) (joined_both ps qs) �
 front : (asked : ℕ) (qs : List (List ℕ)) (stop : Stop) (ps : List (List ℕ)) (c : Call) (rest : List Call) → map (Gave asked) qs ++ last_call asked stop ≡ map (Gave asked) ps ++ c ∷ rest → Front ps qs
 front asked qs stop [] c rest e = record { more = qs; is = refl }
 front asked [] More (p ∷ ps) c rest e = absurd (cc)
-front asked [] End (p ∷ ps) c rest e = absurd (omega (arith, ap length e, length-append (map (Gave asked) ps) (c ∷ rest)))
-front asked [] Fault (p ∷ ps) c rest e = absurd (cc)
+front asked [] EndAnswered (p ∷ ps) c rest e = absurd (omega (arith, ap length e, length-append (map (Gave asked) ps) (c ∷ rest)))
+front asked [] FaultAnswered (p ∷ ps) c rest e = absurd (cc)
 front asked (r ∷ qs) stop (p ∷ ps) c rest e =
     let f : map (Gave asked) qs ++ last_call asked stop ≡ map (Gave asked) ps ++ c ∷ rest = cc in let same : r ≡ p = cc in let g = front asked qs stop ps c rest f in
     record { more = g.more; is = ap (λ (l : List (List ℕ)). r ∷ l) g.is ∙ ap (λ (x : List ℕ). x ∷ ps ++ g.more) same }
@@ -244,17 +244,17 @@ read_behind_the_limit q d s a b v ps c rest (Query qs stop told one reads (inr (
     absurd (omega (arith, front_short ps passes.before (front_before 4096 ps passes.before passes.last c rest calls'), passes.within, past))
 read_behind_the_limit q d s a b v ps c rest (NoDoc qs fits gone reads within) at e past =
     let same : v ≡ reads.handle = cc (reads.at, at) in
-    absurd (omega (arith, front_short ps qs (front 4096 qs End ps c rest (sym reads.calls ∙ ap (λ (w : HandleView). w.calls) (sym same) ∙ e)), within, past))
+    absurd (omega (arith, front_short ps qs (front 4096 qs EndAnswered ps c rest (sym reads.calls ∙ ap (λ (w : HandleView). w.calls) (sym same) ∙ e)), within, past))
 read_behind_the_limit q d s a b v ps c rest (Both qs ds stop told two reads within doc) at e past =
     let same : v ≡ reads.handle = cc (reads.at, at) in
-    absurd (omega (arith, front_short ps qs (front 4096 qs End ps c rest (sym reads.calls ∙ ap (λ (w : HandleView). w.calls) (sym same) ∙ e)), within, past))
+    absurd (omega (arith, front_short ps qs (front 4096 qs EndAnswered ps c rest (sym reads.calls ∙ ap (λ (w : HandleView). w.calls) (sym same) ∙ e)), within, past))
 
-fault_last : (asked : ℕ) (ps : List (List ℕ)) (stop : Stop) (pre : List Call) → map (Gave asked) ps ++ last_call asked stop ≡ pre ++ Failed ∷ [] → stop ≡ Fault
+fault_last : (asked : ℕ) (ps : List (List ℕ)) (stop : Stop) (pre : List Call) → map (Gave asked) ps ++ last_call asked stop ≡ pre ++ Failed ∷ [] → stop ≡ FaultAnswered
 fault_last asked [] More [] e = absurd (cc)
 fault_last asked [] More (x ∷ pre) e = absurd (cc)
-fault_last asked [] End [] e = absurd (cc)
-fault_last asked [] End (x ∷ pre) e = absurd (omega (arith, ap length e, length-append pre (Failed ∷ [])))
-fault_last asked [] Fault pre e = refl
+fault_last asked [] EndAnswered [] e = absurd (cc)
+fault_last asked [] EndAnswered (x ∷ pre) e = absurd (omega (arith, ap length e, length-append pre (Failed ∷ [])))
+fault_last asked [] FaultAnswered pre e = refl
 fault_last asked (p ∷ ps) stop [] e = absurd (cc)
 fault_last asked (p ∷ ps) stop (x ∷ pre) e = (let f : map (Gave asked) ps ++ last_call asked stop ≡ pre ++ Failed ∷ [] = cc in fault_last asked ps stop pre f)
 
@@ -275,8 +275,8 @@ fault_is_told q d s a b sh (InRead k v pre new at e) =
 
 stopped : {asked : ℕ} (name : List ℕ) (h : ℕ) (s : Status) (a b : ShelfView) (ps : List (List ℕ)) (stop : Stop) → IsTold stop s → s ≡ status.ReadFault → length a.given ≤ h → ReadsAsking asked name h a b ps stop → Fails a b
 stopped name h s a b ps More told fault new r = absurd (told fault)
-stopped name h s a b ps End told fault new r = absurd (told fault)
-stopped {asked = asked} name h s a b ps Fault told fault new r = InRead h r.handle (map (Gave asked) ps) new r.at r.calls
+stopped name h s a b ps EndAnswered told fault new r = absurd (told fault)
+stopped {asked = asked} name h s a b ps FaultAnswered told fault new r = InRead h r.handle (map (Gave asked) ps) new r.at r.calls
 
 -- and nothing else does
 pub told_is_fault : (q d : List ℕ) (s : Status) (a b : ShelfView) → Shape q d s a b → s ≡ status.ReadFault → Fails a b
@@ -312,11 +312,11 @@ behind_fault asked qs ps More c rest f on e fault = elim (some_split qs) [
   | inr more ↦ (let calls : map (Gave asked) (more.0 ++ more.1 ∷ []) ≡ map (Gave asked) ps ++ c ∷ rest = ap (map (Gave asked)) (sym more.2) ∙ sym (append-nil (map (Gave asked) qs)) ∙ e in
       no_clean ps more.0 f (front_before asked ps more.0 more.1 c rest calls) fault (on.earlier more.0 more.1 more.2))
 ]
-behind_fault asked qs ps End c rest f on e fault = no_clean ps qs f (front asked qs End ps c rest e) fault (on.unfaulted (λ is. cc))
-behind_fault asked qs ps Fault c rest f on e fault = no_clean ps qs f (front asked qs Fault ps c rest e) fault (on.unfaulted (λ is. cc))
+behind_fault asked qs ps EndAnswered c rest f on e fault = no_clean ps qs f (front asked qs EndAnswered ps c rest e) fault (on.unfaulted (λ is. cc))
+behind_fault asked qs ps FaultAnswered c rest f on e fault = no_clean ps qs f (front asked qs FaultAnswered ps c rest e) fault (on.unfaulted (λ is. cc))
 
 -- bytes of DOC that have a fault, or pass a limit, were read, and then a call came
-pub read_behind_the_document : (tracing : Bool) (ahead : ℕ) (q d : List ℕ) (s : Status) (a b : Outside) (v : HandleView) (ps : List (List ℕ)) (c : Call) (rest : List Call) (f : DocFault)
+pub read_behind_the_document : (tracing : Bool) (ahead : ℕ) (q d : List ℕ) (s : Status) (a b : World) (v : HandleView) (ps : List (List ℕ)) (c : Call) (rest : List Call) (f : DocFault)
     → Runs tracing ahead q d s a b → slice_get b.shelf.given (length a.shelf.given + 1) ≡ Some v → v.calls ≡ map (Gave 65536) ps ++ c ∷ rest
     → FaultIs full_limits (joined ps) false (Some f) → ⊥
 read_behind_the_document tracing ahead q d s a b v ps c rest f r at calls fault =
@@ -326,15 +326,15 @@ read_behind_the_document tracing ahead q d s a b v ps c rest f r at calls fault 
 asked_alike : (asked n : ℕ) (ps : List (List ℕ)) (stop : Stop) (pre : List Call) (p : List ℕ) (rest : List Call) → map (Gave asked) ps ++ last_call asked stop ≡ pre ++ Gave n p ∷ rest → n ≡ asked
 asked_alike asked n [] More [] p rest e = absurd (cc)
 asked_alike asked n [] More (x ∷ pre) p rest e = absurd (cc)
-asked_alike asked n [] End [] p rest e = cc
-asked_alike asked n [] End (x ∷ pre) p rest e = absurd (omega (arith, ap length e, length-append pre (Gave n p ∷ rest)))
-asked_alike asked n [] Fault [] p rest e = absurd (cc)
-asked_alike asked n [] Fault (x ∷ pre) p rest e = absurd (omega (arith, ap length e, length-append pre (Gave n p ∷ rest)))
+asked_alike asked n [] EndAnswered [] p rest e = cc
+asked_alike asked n [] EndAnswered (x ∷ pre) p rest e = absurd (omega (arith, ap length e, length-append pre (Gave n p ∷ rest)))
+asked_alike asked n [] FaultAnswered [] p rest e = absurd (cc)
+asked_alike asked n [] FaultAnswered (x ∷ pre) p rest e = absurd (omega (arith, ap length e, length-append pre (Gave n p ∷ rest)))
 asked_alike asked n (q ∷ ps) stop [] p rest e = cc
 asked_alike asked n (q ∷ ps) stop (x ∷ pre) p rest e = (let f : map (Gave asked) ps ++ last_call asked stop ≡ pre ++ Gave n p ∷ rest = cc in asked_alike asked n ps stop pre p rest f)
 
 -- each read of DOC asks for 65,536 bytes
-pub read_of_another_size : (tracing : Bool) (ahead : ℕ) (q d : List ℕ) (s : Status) (a b : Outside) (v : HandleView) (n : ℕ) (p : List ℕ) (pre rest : List Call) → Runs tracing ahead q d s a b
+pub read_of_another_size : (tracing : Bool) (ahead : ℕ) (q d : List ℕ) (s : Status) (a b : World) (v : HandleView) (n : ℕ) (p : List ℕ) (pre rest : List Call) → Runs tracing ahead q d s a b
     → slice_get b.shelf.given (length a.shelf.given + 1) ≡ Some v → v.calls ≡ pre ++ Gave n p ∷ rest → n ≡ 65536
 read_of_another_size tracing ahead q d s a b v n p pre rest r at calls =
     let same : r.over.doc.handle ≡ v = cc (r.over.doc.at, at) in

@@ -4,14 +4,14 @@ use Rattle.std.proofs.lemmas.List.{append_cancel_left, map_push, same_from_push}
 use Rattle.std.proofs.lemmas.Bool.{false≢true}
 use Rattle.gcx_io.specs.Views.{Call, Took, Denied, SinkView}
 use Rattle.gcx_io.specs.Writing.{Takes, Owes, joined}
-use Rattle.gcx_model.specs.Values.{is_digit}
+use Rattle.gcx_model.specs.Values.{is_digit_byte}
 use Rattle.gcx_words.specs.Words.{command_of}
 use Rattle.gcx_words.specs.declared.command.Command.{Command}
 use Rattle.gcx_words.specs.declared.command.Command.TheVariants.{Run}
 use Rattle.run_words.specs.Ends.{SettlesBefore}
 use Rattle.gcx_cmd.specs.Diagnosis.{line_of}
 use Rattle.gcx_cmd.specs.Does.{DoesIf, Does, Diagnoses}
-use Rattle.gcx_cmd.specs.Outside.{Outside}
+use Rattle.gcx_cmd.specs.World.{World}
 use Rattle.gcx_cmd.specs.RunDoes.{Runs}
 use Rattle.gcx_cmd.specs.Running.{Settles}
 use Rattle.gcx_cmd.specs.Tracing.{IsQueryTrace}
@@ -63,7 +63,7 @@ line_behind a m b ps q sure t o (inr line) e =
     absurd (omega (arith, ap length none, length-append (map Took line.pieces) (Denied line.next ∷ [])))
 
 -- no write failed but the last one to err, that of the line: this is no write fault
-line_fault : (tracing : Bool) (ahead : ℕ) (q d : List ℕ) (a m b : Outside) (ps qs : List (List ℕ)) (p : List ℕ) → Runs tracing ahead q d status.WriteFault a m
+line_fault : (tracing : Bool) (ahead : ℕ) (q d : List ℕ) (a m b : World) (ps qs : List (List ℕ)) (p : List ℕ) → Runs tracing ahead q d status.WriteFault a m
     → Diagnoses status.WriteFault m b → b.out.calls ≡ a.out.calls ++ map Took qs → b.err.calls ≡ a.err.calls ++ map Took ps ++ Denied p ∷ [] → ⊥
 line_fault tracing ahead q d a m b ps qs p r l out err = elim r.ends.1.stops [
   | inl first ↦ calm_out a.out m.out _ _ qs first.0 (ap (λ (v : SinkView). v.calls) (sym l.out) ∙ out)
@@ -71,7 +71,7 @@ line_fault tracing ahead q d a m b ps qs p r l out err = elim r.ends.1.stops [
 ]
 
 -- the output took all, and the line alone failed: this is no write fault
-pub line_fault_is_no_write_fault : (tracing : Bool) (ahead : ℕ) (words : List (List ℕ)) (q d : List ℕ) (a b : Outside) (ps qs : List (List ℕ)) (p : List ℕ)
+pub line_fault_is_no_write_fault : (tracing : Bool) (ahead : ℕ) (words : List (List ℕ)) (q d : List ℕ) (a b : World) (ps qs : List (List ℕ)) (p : List ℕ)
     → command_of words ≡ Some (Run tracing ahead q d) → Does words status.WriteFault a b → b.out.calls ≡ a.out.calls ++ map Took qs
     → b.err.calls ≡ a.err.calls ++ map Took ps ++ Denied p ∷ [] → ⊥
 line_fault_is_no_write_fault tracing ahead words q d a b ps qs p asked does out err =
@@ -90,7 +90,7 @@ took_less a b sure w os p o e short =
     absurd (omega (arith, short, ap length (sym (ap joined same) ∙ o.taken), length-append sure o.more))
 
 -- err took more than what it had taken before the last thing was read, and then the output failed
-pub trace_before_output : (ahead : ℕ) (q d : List ℕ) (a b : Outside) (qs os : List (List ℕ)) (p : List ℕ) (r : Runs true ahead q d status.WriteFault a b)
+pub trace_before_output : (ahead : ℕ) (q d : List ℕ) (a b : World) (qs os : List (List ℕ)) (p : List ℕ) (r : Runs true ahead q d status.WriteFault a b)
     → b.out.calls ≡ a.out.calls ++ map Took os ++ Denied p ∷ [] → b.err.calls ≡ a.err.calls ++ map Took qs
     → ((told : List ℕ) → SettlesBefore (IsQueryTrace r.x) r.pieces r.stop told → length told < length (joined qs)) → ⊥
 trace_before_output ahead q d a b qs os p r out err more = elim r.ends.1.stops [
@@ -102,7 +102,7 @@ trace_before_output ahead q d a b qs os p r out err more = elim r.ends.1.stops [
 ]
 
 -- the output took less than what it is to have taken before the last thing was read
-pub read_behind_a_failed_write : (tracing : Bool) (ahead : ℕ) (q d : List ℕ) (a b : Outside) (os : List (List ℕ)) (p : List ℕ) (r : Runs tracing ahead q d status.WriteFault a b)
+pub read_behind_a_failed_write : (tracing : Bool) (ahead : ℕ) (q d : List ℕ) (a b : World) (os : List (List ℕ)) (p : List ℕ) (r : Runs tracing ahead q d status.WriteFault a b)
     → b.out.calls ≡ a.out.calls ++ map Took os ++ Denied p ∷ []
     → ((wrote : List ℕ) → SettlesBefore (Settles r.x) r.pieces r.stop wrote → length (joined os) < length wrote) → ⊥
 read_behind_a_failed_write tracing ahead q d a b os p r out less = elim r.ends.1.stops [
@@ -111,7 +111,7 @@ read_behind_a_failed_write tracing ahead q d a b os p r out less = elim r.ends.1
 ]
 
 -- without a trace the diagnoses have their line alone
-pub traces_unasked : (ahead : ℕ) (q d : List ℕ) (a b : Outside) (c : Call) (rest : List Call) → Runs false ahead q d status.Ok a b
+pub traces_unasked : (ahead : ℕ) (q d : List ℕ) (a b : World) (c : Call) (rest : List Call) → Runs false ahead q d status.Ok a b
     → b.err.calls ≡ a.err.calls ++ c ∷ rest → ⊥
 traces_unasked ahead q d a b c rest r err =
     let none : a.err.calls ≡ a.err.calls ++ c ∷ rest = sym (ap (λ (v : SinkView). v.calls) r.ends.2.told) ∙ err in
@@ -147,7 +147,7 @@ offered_of line a b ys p some (inr o) e =
 
 -- At want of memory, where the last write of the diagnoses failed, it was offered bytes of the line of that status: it isn't a write of
 -- the trace, whose lines begin otherwise, and the line wasn't left out.
-pub memory_offers_its_line : (words : List (List ℕ)) (a b : Outside) (ys : List Call) (p : List ℕ) → Does words status.Memory a b → b.err.calls ≡ ys ++ Denied p ∷ []
+pub memory_offers_its_line : (words : List (List ℕ)) (a b : World) (ys : List Call) (p : List ℕ) → Does words status.Memory a b → b.err.calls ≡ ys ++ Denied p ∷ []
     → (before : List ℕ) × (later : List ℕ) × (line_of status.Memory ≡ before ++ p ++ later)
 memory_offers_its_line words a b ys p does e = offered_of (line_of status.Memory) does.between.err b.err ys p (λ none. absurd (omega (arith, ap length none))) does.diagnosed.line e
 
@@ -155,11 +155,11 @@ memory_offers_its_line words a b ys p does e = offered_of (line_of status.Memory
 
 abbrev pub has_digit : List ℕ → Bool
 has_digit [] = false
-has_digit (y ∷ ys) = cond (is_digit y) true (has_digit ys)
+has_digit (y ∷ ys) = cond (is_digit_byte y) true (has_digit ys)
 
 digit_behind : (xs ys : List ℕ) → has_digit ys ≡ true → has_digit (xs ++ ys) ≡ true
 digit_behind [] ys h = h
-digit_behind (y ∷ xs) ys h = go (is_digit y) (has_digit (xs ++ ys)) (digit_behind xs ys h)
+digit_behind (y ∷ xs) ys h = go (is_digit_byte y) (has_digit (xs ++ ys)) (digit_behind xs ys h)
   where
     go : (b c : Bool) → c ≡ true → cond b true c ≡ true
     go true c e = refl
@@ -167,7 +167,7 @@ digit_behind (y ∷ xs) ys h = go (is_digit y) (has_digit (xs ++ ys)) (digit_beh
 
 digit_before : (xs ys : List ℕ) → has_digit xs ≡ true → has_digit (xs ++ ys) ≡ true
 digit_before [] ys h = absurd (false≢true h)
-digit_before (y ∷ xs) ys h = go (is_digit y) (has_digit xs) (has_digit (xs ++ ys)) h (digit_before xs ys)
+digit_before (y ∷ xs) ys h = go (is_digit_byte y) (has_digit xs) (has_digit (xs ++ ys)) h (digit_before xs ys)
   where
     go : (b c d : Bool) → cond b true c ≡ true → (c ≡ true → d ≡ true) → cond b true d ≡ true
     go true c d e on = refl
@@ -175,7 +175,7 @@ digit_before (y ∷ xs) ys h = go (is_digit y) (has_digit xs) (has_digit (xs ++ 
 
 -- At want of memory no failed write of the diagnoses was offered a digit. Each line of a trace has one: a write of whole lines of it that
 -- fails makes a write fault.
-pub no_write_of_a_trace : (words : List (List ℕ)) (a b : Outside) (ys : List Call) (p : List ℕ) → Does words status.Memory a b → b.err.calls ≡ ys ++ Denied p ∷ [] → has_digit p ≡ true → ⊥
+pub no_write_of_a_trace : (words : List (List ℕ)) (a b : World) (ys : List Call) (p : List ℕ) → Does words status.Memory a b → b.err.calls ≡ ys ++ Denied p ∷ [] → has_digit p ≡ true → ⊥
 no_write_of_a_trace words a b ys p does e digit =
     let o = memory_offers_its_line words a b ys p does e in
     let there : has_digit (line_of status.Memory) ≡ true = ap has_digit o.2 ∙ digit_before (o.0 ++ p) o.1 (digit_behind o.0 p digit) in

@@ -7,7 +7,7 @@ use Rattle.std.specs.FinMap.{empty, get, get-empty, same_map, nat_cmp-IsAntisymm
 use Rattle.std.specs.FinSet as set
 use Rattle.std.proofs.lemmas.Bool.{false≢true, eq-eqb}
 use Rattle.std.proofs.lemmas.List.{length-map}
-use Rattle.node_store.specs.Rows.{Entry}
+use Rattle.node_store.specs.Rows.{StoreRow}
 use Rattle.tree_laws.proofs.Lists.{In, In-filter}
 use Rattle.gcx_model.specs.Tree.{Node, Tree}
 use Rattle.gcx_model.specs.Past.{Past}
@@ -61,7 +61,7 @@ module _ (m : Store) (xs : List Cell) (s : Shape m xs) where
   gets_cell c i = s.gets c.place ∙ ap (option_map (entry_in xs)) (at_place_is xs s.apart c i)
 
   serial_here : (c : Cell) → In c xs → serial_in m c.place ≡ Some (num c)
-  serial_here c i = ap (option_map (λ (e : Entry Row). e.payload.serial)) (gets_cell c i)
+  serial_here c i = ap (option_map (λ (e : StoreRow Row). e.payload.serial)) (gets_cell c i)
 
   children_serials : (ys : List Cell) → ((d : Cell) → In d ys → In d xs) → serials_in m (map (λ (d : Cell). d.place) ys) ≡ map num ys
   children_serials [] h = refl
@@ -97,14 +97,14 @@ module _ (m : Store) (xs : List Cell) (s : Shape m xs) where
     each = λ p x g.
         let h = held_in m xs s p x g in
         let t = pair_left bare_seen (bare_told past) xs ns e h.0 h.1 in
-        (t.0, t.1, subst (λ (y : Entry Row). Shows m past.tree y t.0) (sym h.3) (shows_here past h.0 h.1 t.0 t.2));
+        (t.0, t.1, subst (λ (y : StoreRow Row). Shows m past.tree y t.0) (sym h.3) (shows_here past h.0 h.1 t.0 t.2));
     all = λ n i.
         let r = pair_left (bare_told past) bare_seen ns xs (sym e) n i in
         (r.0.place, entry_in xs r.0, gets_cell r.0 r.1, shows_here past r.0 r.1 n (sym r.2));
     count = rows_number m xs s ∙ sym (length-map xs bare_seen) ∙ ap length e ∙ length-map ns (bare_told past);
     order = λ p x g.
         let h = held_in m xs s p x g in
-        subst (λ (y : Entry Row). AreRising (serials_in m y.children)) (sym h.3) (rising_children h.0);
+        subst (λ (y : StoreRow Row). AreRising (serials_in m y.children)) (sym h.3) (rising_children h.0);
   }
 
 pub rows_are : (m : Store) (v : View) → HasRows m v → (past : Past) (ns : List Node) → map seen v.rows ≡ map (told past) ns → RowsAre m past.tree ns
@@ -114,6 +114,6 @@ rows_are m v s past ns e = are_theirs m v.kept s.0 past ns (kept_tell past v ns 
 pub no_rows : (m : Store) (P : Tree) → RowsAre m P [] → m ≡ empty
 no_rows m P r = same_map nat_cmp_total nat_cmp-IsAntisymmetric m empty (λ p. go p (get m p) refl ∙ sym (get-empty nat_cmp p))
   where
-    go : (p : ℕ) (o : Option (Entry Row)) → get m p ≡ o → o ≡ None
+    go : (p : ℕ) (o : Option (StoreRow Row)) → get m p ≡ o → o ≡ None
     go p None e = refl
     go p (Some x) e = let h = r.each p x e in absurd h.1

@@ -17,7 +17,7 @@ use Rattle.gcx_model.specs.Points.{actions, so_far}
 use Rattle.gcx_model.specs.Query.{ExprTree}
 use Rattle.gcx_model.specs.Run.{Action}
 use Rattle.gcx_model.specs.Seen.{SeenIs, seen_tree}
-use Rattle.gcx_model.specs.Tree.{Tree, Token, Node}
+use Rattle.gcx_model.specs.Tree.{Tree, TreeToken, Node}
 use Rattle.gcx_model.specs.declared.fault.DocFault.{DocFault}
 use Rattle.tree_laws.specs.Growth.{AllClosed}
 use Rattle.placed_laws.proofs.PlanWriting.{plan_bytes}
@@ -32,11 +32,12 @@ use Rattle.run_words.proofs.Mapping.{ends_map}
 use Rattle.run_words.proofs.Sourcing.{clean_none, on_clean, source_none}
 use Rattle.run_words.specs.Ends.{EndsRun, Unread}
 use Rattle.run_words.specs.Reading.{CountsFault}
-use Rattle.run_words.specs.Stops.{Stop, More, End, is_end}
+use Rattle.run_words.specs.Stops.{Stop, More, EndAnswered, is_end}
 use Rattle.run_words.specs.Writing.{Sinks, TakesFront, TracesFront}
 use Rattle.engine.proofs.Most.{most_fresh, unless_both}
-use Rattle.engine.specs.Engine.{IsTrace as PlanTrace, MostIs, Peaks, Settles as PlanSettles, StandsOf}
-use Rattle.engine.specs.Actors.{past_at}
+use Rattle.engine.specs.Engine.{IsTrace as PlanTrace, MostIs, Settles as PlanSettles, StandsOf}
+use Rattle.run_part.specs.Counts.{Peaks}
+use Rattle.run_part.specs.Actors.{past_at}
 use Rattle.engine.specs.Runs.{Numbers, Ran, UnlessMemory as UnlessLost, run_end, sinks}
 use Rattle.engine.specs.View.{EngineView}
 use Rattle.engine.specs.declared.report.Ended.{Ended}
@@ -93,7 +94,7 @@ take_whole (x ∷ xs) = ap (λ (l : List _). x ∷ l) (take_whole xs)
 all_taken : (plan : PlanTree) (P : Tree) → so_far plan P (length (actions plan P)) ≡ actions plan P
 all_taken plan P = take_whole (actions plan P)
 
-module _ (plan : PlanTree) (ts : List Token) (v : View) (fed : ℕ) (st : StandsFor v (past_at plan (seen_tree ts) (length (actions plan (seen_tree ts))) fed)) where
+module _ (plan : PlanTree) (ts : List TreeToken) (v : View) (fed : ℕ) (st : StandsFor v (past_at plan (seen_tree ts) (length (actions plan (seen_tree ts))) fed)) where
   rows_on : (m : Store) → HasRows m v → RowsAre m (seen_tree ts) (held_by plan (seen_tree ts))
   rows_on m s =
       subst (λ (l : List Action). RowsAre m (seen_tree ts) (held plan (seen_tree ts) l)) (all_taken plan (seen_tree ts))
@@ -162,7 +163,7 @@ module _ {C : Type 0} (stands : C → Tree → Type 0) (tracing : Bool) (e : Eng
       }
 
   -- where the input came to its end
-  at_end : t.ended ≡ end.Ok → (r.stop ≡ End) × FaultIs full_limits (joined r.pieces) true None × StandsOf stands full_limits e (joined r.pieces) true
+  at_end : t.ended ≡ end.Ok → (r.stop ≡ EndAnswered) × FaultIs full_limits (joined r.pieces) true None × StandsOf stands full_limits e (joined r.pieces) true
   at_end ok =
       let ends = subst (λ (x : Ended). EndsRun (PlanSettles plan full_limits) (PlanTrace plan full_limits) full_limits tracing (run_end x) r.pieces r.stop (sinks o d) (sinks p f)) ok ends_said in
       let st = subst (λ (x : Ended). UnlessLost x (StandsOf stands full_limits e (joined r.pieces) (is_end r.stop))) ok r.stand in
@@ -201,7 +202,7 @@ module _ {C : Type 0} (stands : C → Tree → Type 0) (tracing : Bool) (e : Eng
 
 -- ---- where memory ran out before anything was read
 
-settled_none : (q : List ExprTree) → (ts : List Token) × SeenIs full_limits [] false ts
+settled_none : (q : List ExprTree) → (ts : List TreeToken) × SeenIs full_limits [] false ts
 settled_none q = found_seen full_limits [] false
 
 -- nothing of a text, or of a trace

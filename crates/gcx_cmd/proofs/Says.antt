@@ -14,13 +14,13 @@ use Rattle.gcx_model.specs.declared.fault.QueryFault.TheVariants.{Utf8, Lex, Syn
 use Rattle.gcx_model.specs.declared.fault.What.{What}
 use Rattle.gcx_model.specs.declared.fault.What.TheVariants.{Text}
 use Rattle.doc_laws.proofs.Pieces.{fault_stays}
-use Rattle.run_words.specs.Stops.{Stop, More, End, Fault}
+use Rattle.run_words.specs.Stops.{Stop, More, EndAnswered, FaultAnswered}
 use Rattle.xq_parse.specs.Faults.{TextFaultOf, HasOnlyQuery}
 use Rattle.gcx_cmd.specs.CheckDoes.{CheckDoes}
 use Rattle.gcx_cmd.specs.DocumentDoes.{HasFault}
 use Rattle.gcx_cmd.specs.ExplainDoes.{ExplainDoes}
 use Rattle.gcx_cmd.specs.Main.{Accepts, IsDocument, IsOneQuery, QueryFaultOf, SaysOfDocument, SaysOfQuery}
-use Rattle.gcx_cmd.specs.Outside.{Outside}
+use Rattle.gcx_cmd.specs.World.{World}
 use Rattle.gcx_cmd.specs.PeakDoes.{PeakDoes}
 use Rattle.gcx_cmd.specs.QueryDoes.{AcceptsQuery, RefusesText}
 use Rattle.gcx_cmd.specs.Reads.{Reads, ReadsAsking, most_of_query}
@@ -40,7 +40,7 @@ given_part bytes b None m = absurd m
 given_part bytes b (Some rest) m = (rest, m)
 
 module _ (name bytes : List ℕ) (h : ℕ) (a b : ShelfView) (ps : List (List ℕ)) (told : content_of a.names name ≡ Some bytes) where
-  pub read_all : {asked : ℕ} → ReadsAsking asked name h a b ps End → bytes ≡ joined ps
+  pub read_all : {asked : ℕ} → ReadsAsking asked name h a b ps EndAnswered → bytes ≡ joined ps
   read_all r = given_all bytes (joined ps) r.handle.left (subst (λ (o : Option (List ℕ)). Consumes o r.handle.left (joined ps)) told r.told) (r.at_end refl)
 
   pub read_part : {asked : ℕ} (stop : Stop) → ReadsAsking asked name h a b ps stop → (rest : List ℕ) × (bytes ≡ joined ps ++ rest)
@@ -81,7 +81,7 @@ QuerySays q status.WriteFault a b = (x : List ExprTree) × AcceptsQuery q a b x
 QuerySays q status.Memory a b = ⊤
 QuerySays q (status.TraceRefused n) a b = (x : List ExprTree) × AcceptsQuery q a b x
 
-pub run_query_says : (tracing : Bool) (ahead : ℕ) (q d : List ℕ) (s : Status) (a b : Outside) → RunDoes tracing ahead q d s a b → QuerySays q s a.shelf b.shelf
+pub run_query_says : (tracing : Bool) (ahead : ℕ) (q d : List ℕ) (s : Status) (a b : World) → RunDoes tracing ahead q d s a b → QuerySays q s a.shelf b.shelf
 run_query_says tracing ahead q d status.Ok a b r = (r.0.x, r.0.over.query)
 run_query_says tracing ahead q d status.Usage a b r = r
 run_query_says tracing ahead q d (status.QueryRefused f) a b r = r.1
@@ -91,7 +91,7 @@ run_query_says tracing ahead q d status.WriteFault a b r = (r.x, r.over.query)
 run_query_says tracing ahead q d status.Memory a b r = tt
 run_query_says tracing ahead q d (status.TraceRefused n) a b r = absurd r
 
-pub whole_query_says : (q d : List ℕ) (s : Status) (a b : Outside) → WholeDoes q d s a b → QuerySays q s a.shelf b.shelf
+pub whole_query_says : (q d : List ℕ) (s : Status) (a b : World) → WholeDoes q d s a b → QuerySays q s a.shelf b.shelf
 whole_query_says q d status.Ok a b r = (r.x, r.over.query)
 whole_query_says q d status.Usage a b r = r
 whole_query_says q d (status.QueryRefused f) a b r = r.1
@@ -101,7 +101,7 @@ whole_query_says q d status.WriteFault a b r = (r.x, r.over.query)
 whole_query_says q d status.Memory a b r = tt
 whole_query_says q d (status.TraceRefused n) a b r = absurd r
 
-pub peak_query_says : (q d : List ℕ) (s : Status) (a b : Outside) → PeakDoes q d s a b → QuerySays q s a.shelf b.shelf
+pub peak_query_says : (q d : List ℕ) (s : Status) (a b : World) → PeakDoes q d s a b → QuerySays q s a.shelf b.shelf
 peak_query_says q d status.Ok a b r = (r.0.x, r.0.over.query)
 peak_query_says q d status.Usage a b r = r
 peak_query_says q d (status.QueryRefused f) a b r = r.1
@@ -111,7 +111,7 @@ peak_query_says q d status.WriteFault a b r = (r.x, r.over.query)
 peak_query_says q d status.Memory a b r = tt
 peak_query_says q d (status.TraceRefused n) a b r = absurd r
 
-pub explain_query_says : (q : List ℕ) (s : Status) (a b : Outside) → ExplainDoes q s a b → QuerySays q s a.shelf b.shelf
+pub explain_query_says : (q : List ℕ) (s : Status) (a b : World) → ExplainDoes q s a b → QuerySays q s a.shelf b.shelf
 explain_query_says q status.Ok a b r = (r.x, r.query)
 explain_query_says q status.Usage a b r = r
 explain_query_says q (status.QueryRefused f) a b r = r.1
@@ -121,7 +121,7 @@ explain_query_says q status.WriteFault a b r = (r.x, r.query)
 explain_query_says q status.Memory a b r = tt
 explain_query_says q (status.TraceRefused n) a b r = absurd r
 
-pub check_query_says : (q d t : List ℕ) (s : Status) (a b : Outside) → CheckDoes q d t s a b → QuerySays q s a.shelf b.shelf
+pub check_query_says : (q d t : List ℕ) (s : Status) (a b : World) → CheckDoes q d t s a b → QuerySays q s a.shelf b.shelf
 check_query_says q d t status.Ok a b r = (r.x, r.over.query)
 check_query_says q d t status.Usage a b r = r
 check_query_says q d t (status.QueryRefused f) a b r = r.1
@@ -159,7 +159,7 @@ module _ (q bytes : List ℕ) (a b : ShelfView) (told : content_of a.names q ≡
 
 -- all of DOC was read, and it has no fault
 abbrev pub DocIsClean : List ℕ → ShelfView → ShelfView → Type 0
-DocIsClean d a b = (ps : List (List ℕ)) × Reads d (length a.given + 1) a b ps End × FaultIs full_limits (joined ps) true None
+DocIsClean d a b = (ps : List (List ℕ)) × Reads d (length a.given + 1) a b ps EndAnswered × FaultIs full_limits (joined ps) true None
 
 abbrev pub DocSays : List ℕ → Status → ShelfView → ShelfView → Type 0
 DocSays d status.Ok a b = DocIsClean d a b
@@ -167,7 +167,7 @@ DocSays d (status.TraceRefused n) a b = DocIsClean d a b
 DocSays d (status.DocumentRefused f) a b = (ps : List (List ℕ)) × (stop : Stop) × Reads d (length a.given + 1) a b ps stop × HasFault f ps stop
 DocSays d s a b = ⊤
 
-pub run_doc_says : (tracing : Bool) (ahead : ℕ) (q d : List ℕ) (s : Status) (a b : Outside) → RunDoes tracing ahead q d s a b → DocSays d s a.shelf b.shelf
+pub run_doc_says : (tracing : Bool) (ahead : ℕ) (q d : List ℕ) (s : Status) (a b : World) → RunDoes tracing ahead q d s a b → DocSays d s a.shelf b.shelf
 run_doc_says tracing ahead q d status.Ok a b r =
     (r.0.pieces, subst (λ (z : Stop). Reads d (length a.shelf.given + 1) a.shelf b.shelf r.0.pieces z) r.0.ends.0 r.0.over.doc, r.0.ends.1)
 run_doc_says tracing ahead q d status.Usage a b r = absurd r
@@ -178,7 +178,7 @@ run_doc_says tracing ahead q d status.WriteFault a b r = tt
 run_doc_says tracing ahead q d status.Memory a b r = tt
 run_doc_says tracing ahead q d (status.TraceRefused n) a b r = absurd r
 
-pub whole_doc_says : (q d : List ℕ) (s : Status) (a b : Outside) → WholeDoes q d s a b → DocSays d s a.shelf b.shelf
+pub whole_doc_says : (q d : List ℕ) (s : Status) (a b : World) → WholeDoes q d s a b → DocSays d s a.shelf b.shelf
 whole_doc_says q d status.Ok a b r =
     let clean = r.ends.1.clean in
     (r.pieces, subst (λ (z : Stop). Reads d (length a.shelf.given + 1) a.shelf b.shelf r.pieces z) clean.at_end r.over.doc, clean.clean)
@@ -190,7 +190,7 @@ whole_doc_says q d status.WriteFault a b r = tt
 whole_doc_says q d status.Memory a b r = tt
 whole_doc_says q d (status.TraceRefused n) a b r = absurd r
 
-pub peak_doc_says : (q d : List ℕ) (s : Status) (a b : Outside) → PeakDoes q d s a b → DocSays d s a.shelf b.shelf
+pub peak_doc_says : (q d : List ℕ) (s : Status) (a b : World) → PeakDoes q d s a b → DocSays d s a.shelf b.shelf
 peak_doc_says q d status.Ok a b r =
     let clean = r.0.ends.1.clean in
     (r.0.pieces, subst (λ (z : Stop). Reads d (length a.shelf.given + 1) a.shelf b.shelf r.0.pieces z) clean.at_end r.0.over.doc, clean.clean)
@@ -202,7 +202,7 @@ peak_doc_says q d status.WriteFault a b r = tt
 peak_doc_says q d status.Memory a b r = tt
 peak_doc_says q d (status.TraceRefused n) a b r = absurd r
 
-pub check_doc_says : (q d t : List ℕ) (s : Status) (a b : Outside) → CheckDoes q d t s a b → DocSays d s a.shelf b.shelf
+pub check_doc_says : (q d t : List ℕ) (s : Status) (a b : World) → CheckDoes q d t s a b → DocSays d s a.shelf b.shelf
 check_doc_says q d t status.Ok a b r = (r.over.doc_pieces, r.over.doc, r.over.tokens.clean.clean)
 check_doc_says q d t status.Usage a b r = absurd r
 check_doc_says q d t (status.QueryRefused f) a b r = tt
@@ -214,11 +214,11 @@ check_doc_says q d t (status.TraceRefused n) a b r = (r.over.doc_pieces, r.over.
 
 module _ (d bytes : List ℕ) (a b : ShelfView) (told : content_of a.names d ≡ Some bytes) where
   faulted : (f : DocFault) (ps : List (List ℕ)) (stop : Stop) → Reads d (length a.given + 1) a b ps stop → HasFault f ps stop → FaultIs full_limits bytes true (Some f)
-  faulted f ps End r w = subst (λ (l : List ℕ). FaultIs full_limits l true (Some f)) (sym (read_all d bytes (length a.given + 1) a b ps told r)) w.fault
+  faulted f ps EndAnswered r w = subst (λ (l : List ℕ). FaultIs full_limits l true (Some f)) (sym (read_all d bytes (length a.given + 1) a b ps told r)) w.fault
   faulted f ps More r w =
       let part = read_part d bytes (length a.given + 1) a b ps told More r in
       subst (λ (l : List ℕ). FaultIs full_limits l true (Some f)) (sym part.1) (fault_stays full_limits (joined ps) part.0 true f w.fault)
-  faulted f ps Fault r w = absurd w.calm
+  faulted f ps FaultAnswered r w = absurd w.calm
 
   pub clean_document : DocIsClean d a b → IsDocument bytes
   clean_document w = subst (λ (l : List ℕ). FaultIs full_limits l true None) (sym (read_all d bytes (length a.given + 1) a b w.0 told w.1)) w.2

@@ -18,7 +18,7 @@ use Rattle.xq_lex.specs.declared.token.TokKind.TheVariants as kinds
 use Rattle.xq_lex.specs.Answer.{IsLexeme}
 use Rattle.xq_lex.specs.Found.{of_name, kind_at}
 use Rattle.xq_lex.specs.Gap.{HasGap, begins_white}
-use Rattle.xq_lex.specs.Lex.{Reads as ReadsToken, ReadsAll as ReadsTokens, Lexes}
+use Rattle.xq_lex.specs.Lex.{Reads as ReadsToken, ReadsAll as ReadsQueryTokens, Lexes}
 use Rattle.xq_lex.specs.Names.{name_at, may_begin, may_go_on}
 use Rattle.xq_lex.specs.Numbers.{units_of}
 use Rattle.xq_lex.specs.Sign.{sign_at, sign_chars, opens_comment}
@@ -27,7 +27,7 @@ use Rattle.xq_lex.proofs.GapLaws.{no_gap, more_gap, gap_ends}
 use Rattle.xq_lex.proofs.LexLaws.{next_is}
 use Rattle.xq_lex.proofs.LexemeLaws.{name_lexeme, variable_lexeme, number_is, reads_of, sign_is}
 use Rattle.xq_lex.proofs.SpanLaws.{lexes_bytes}
-use Rattle.xq_parse.specs.Grammar.{Derivation, Derives, derivation_tree, plain, name_test, Steps, no_step, more_steps, from_var, in_root, number, literal_operand, Cond, cond_of, no_or, all, no_and, compared, clause, no_clause, no_where, for_expr, if_expr, elem_expr, paren_expr, path_expr, closed, no_rest, long, ended, braced}
+use Rattle.xq_parse.specs.Grammar.{Derivation, Derives, derivation_tree, plain, name_test, StepsSyntax, no_step, more_steps, from_var, in_root, number, literal_operand, Cond, cond_of, no_or, all, no_and, compared, clause, no_clause, no_where, for_expr, if_expr, elem_expr, paren_expr, path_expr, closed, no_rest, long, ended, braced}
 use Rattle.xq_parse.specs.Spelling.{QuerySpells}
 use Rattle.xq_parse.specs.Tokens.{tokens_of}
 use Rattle.xq_print.specs.Literals.{places}
@@ -67,7 +67,7 @@ left place = drop place self_query
 
 -- these are its tokens
 pub record Rest (place : ℕ) (ts : List Tok) : Type 0 where
-  pub reads : ReadsTokens 78 (left place) ts []
+  pub reads : ReadsQueryTokens 78 (left place) ts []
 
 abbrev a_tok : TokKind → (from to : ℕ) → Tok
 a_tok kind from to = record { kind = kind; from = from; to = to }
@@ -194,11 +194,11 @@ read =
 
 lexed : Lexes self_query query_tokens
 lexed = lexes_bytes self_query self_query query_tokens (omega arith) (IsUtf8-from_ascii self_query ascii_query) (sym (chars-IsAscii self_query ascii_query))
-    (record { rest = []; reads = subst (λ (n : ℕ). ReadsTokens n self_query query_tokens []) (sym (ap length (encodes-IsAscii self_query ascii_query))) read.reads; gap = no_gap [] (gap_ends [] refl refl) })
+    (record { rest = []; reads = subst (λ (n : ℕ). ReadsQueryTokens n self_query query_tokens []) (sym (ap length (encodes-IsAscii self_query ascii_query))) read.reads; gap = no_gap [] (gap_ends [] refl refl) })
 
 -- ---- Its derivation
 
-abbrev one_step : (at : ℕ) → List ℕ → Steps
+abbrev one_step : (at : ℕ) → List ℕ → StepsSyntax
 one_step at n = more_steps (plain at (name_test n)) no_step
 
 abbrev over_fifty : Cond

@@ -13,7 +13,7 @@ use Rattle.gcx_cmd.specs.Commands.{HasFile, LacksFile, outs_of, query_of}
 use Rattle.gcx_cmd.specs.ExplainDoes.{ExplainDoes}
 use Rattle.gcx_cmd.specs.Keeps.{HasCauses, Keeps, KeepsFiles}
 use Rattle.gcx_cmd.specs.Main.{HasNoMemory}
-use Rattle.gcx_cmd.specs.Outside.{Outside, StoreView, Untouched, beside}
+use Rattle.gcx_cmd.specs.World.{World, StoreView, Untouched, beside}
 use Rattle.gcx_cmd.specs.PeakDoes.{PeakDoes}
 use Rattle.gcx_cmd.specs.QueryDoes.{StopsInQuery}
 use Rattle.gcx_cmd.specs.Reads.{CausesFault, KeepsShelf}
@@ -33,7 +33,7 @@ files_kept outs a b k = record {
   left = λ telling h v w at then other. ap (λ (x : HandleView). x.left) (some_is (slice_get b.given h) w v then (k.given h (not_there a.given h v at) ∙ at));
 }
 
-pub keeps_of : (c : Command) (s : Status) (a b : Outside) → KeepsShelf a.shelf b.shelf → a.out.faults ≤ b.out.faults → a.err.faults ≤ b.err.faults
+pub keeps_of : (c : Command) (s : Status) (a b : World) → KeepsShelf a.shelf b.shelf → a.out.faults ≤ b.out.faults → a.err.faults ≤ b.err.faults
     → HasCauses c s a b → HasNoMemory s → Keeps c s a b
 keeps_of c s a b k out err causes memory = record {
   all = λ none. record { names = k.names; unwritten = k.write_faults; given = k.given };
@@ -44,7 +44,7 @@ keeps_of c s a b k out err causes memory = record {
 }
 
 -- no write failed, and a read fault has a cause
-pub causes_of : (c : Command) (s : Status) (a b : Outside) → (s ≡ status.WriteFault → ⊥)
+pub causes_of : (c : Command) (s : Status) (a b : World) → (s ≡ status.WriteFault → ⊥)
     → (s ≡ status.ReadFault → Rose a.shelf.faults b.shelf.faults ⊎ LacksFile c a.shelf b.shelf) → HasCauses c s a b
 causes_of c status.Ok a b write read = tt
 causes_of c status.Usage a b write read = tt

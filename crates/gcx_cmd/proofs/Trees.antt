@@ -5,7 +5,7 @@ use Rattle.std.specs.declared.collections.VecDeque.{VecDeque}
 use Rattle.gcx_io.specs.Views.{ShelfView, SourceView}
 use Rattle.gcx_io.specs.Writing.{joined}
 use Rattle.gcx_model.specs.Tree.{Tree}
-use Rattle.run_words.specs.Stops.{Stop, End}
+use Rattle.run_words.specs.Stops.{Stop, EndAnswered}
 use Rattle.doc_reader.specs.Standing.{said_of, Token}
 use Rattle.tree_read.specs.Document.{AreTokens, IsWhole, ReadsBy, ReadsDocument, ReadsTokens}
 use Rattle.tree_read.specs.declared.reading.DocumentEnd.{DocumentEnd}
@@ -17,7 +17,7 @@ use Rattle.gcx_cmd.specs.ReadEnd.{document_status}
 module _ (d : List ℕ) (a b : ShelfView) (s t : SourceView) (f : FileRead d a b s t) where
   -- `Is` ties what is made to the bytes, and so `Says` holds of the pieces
   module _ {T : Type 0} (Is : List ℕ → T → Type 0) (Says : T → List (List ℕ) → Stop → Type 0)
-      (says : (x : T) (pieces : List (List ℕ)) (stop : Stop) → stop ≡ End → Is (joined pieces) x → Says x pieces stop) where
+      (says : (x : T) (pieces : List (List ℕ)) (stop : Stop) → stop ≡ EndAnswered → Is (joined pieces) x → Says x pieces stop) where
     reads_does : (x : T) → ReadsBy Is s t (Ok x) → ReadsDoes Says d (Ok x) a b
     reads_does x r = record {
       pieces = r.pieces;
@@ -54,7 +54,7 @@ module _ (d : List ℕ) (a b : ShelfView) (s t : SourceView) (f : FileRead d a b
       says = r.finds;
     })
 
-  is_tree : (tree : Tree) (pieces : List (List ℕ)) (stop : Stop) → stop ≡ End → IsWhole (joined pieces) tree → ReadsTree tree pieces stop
+  is_tree : (tree : Tree) (pieces : List (List ℕ)) (stop : Stop) → stop ≡ EndAnswered → IsWhole (joined pieces) tree → ReadsTree tree pieces stop
   is_tree tree pieces stop at_end whole = record { at_end = at_end; whole = whole }
 
   pub tree_does : (tree : Tree) → ReadsDocument s t (Ok tree) → TreeDoes d (Ok tree) a b
@@ -69,7 +69,7 @@ module _ (d : List ℕ) (a b : ShelfView) (s t : SourceView) (f : FileRead d a b
   abbrev Given : VecDeque Token Global → List (List ℕ) → Stop → Type 0
   Given tokens = ReadsAll (map said_of tokens.items)
 
-  are_tokens : (tokens : VecDeque Token Global) (pieces : List (List ℕ)) (stop : Stop) → stop ≡ End → Spell (joined pieces) tokens → Given tokens pieces stop
+  are_tokens : (tokens : VecDeque Token Global) (pieces : List (List ℕ)) (stop : Stop) → stop ≡ EndAnswered → Spell (joined pieces) tokens → Given tokens pieces stop
   are_tokens tokens pieces stop at_end are = record { at_end = at_end; are = are }
 
   pub tokens_does : (tokens : VecDeque Token Global) → ReadsTokens s t (Ok tokens) → TokensDoes d (Ok tokens) a b

@@ -5,7 +5,7 @@ use Rattle.gcx_model.specs.Answer.{answer}
 use Rattle.gcx_model.specs.Query.{ExprTree}
 use Rattle.gcx_model.specs.Tree.{Tree}
 use Rattle.gcx_words.specs.declared.command.Command.TheVariants.{Whole}
-use Rattle.run_words.specs.Stops.{Stop, End, IsCalm}
+use Rattle.run_words.specs.Stops.{Stop, EndAnswered, IsCalm}
 use Rattle.gcx_cmd.proofs.Explained.{text_causes, text_memory}
 use Rattle.gcx_cmd.proofs.Behind.{accepted_kept, both_keep, cause_later, doc_later, misses_later, opens_still, opens_two}
 use Rattle.gcx_cmd.proofs.Stops.{keeps_of, lacks, untouched}
@@ -13,7 +13,7 @@ use Rattle.gcx_cmd.specs.Does.{DoesIf}
 use Rattle.gcx_cmd.specs.DocumentDoes.{Over, OverDoc, HasFault, IsCut, ReadsTree, TreeDoes}
 use Rattle.gcx_cmd.specs.Keeps.{HasCauses}
 use Rattle.gcx_cmd.specs.Main.{HasNoMemory}
-use Rattle.gcx_cmd.specs.Outside.{StoreView, beside}
+use Rattle.gcx_cmd.specs.World.{StoreView, beside}
 use Rattle.gcx_cmd.specs.QueryDoes.{AcceptsQuery}
 use Rattle.gcx_cmd.specs.Reads.{CausesFault, KeepsShelf, Opens}
 use Rattle.gcx_cmd.specs.WholeDoes.{ReadsWhole, WholeDoes}
@@ -49,7 +49,7 @@ module _ (q d : List ℕ) (a m b : ShelfView) (x : List ExprTree) (one : Opens 1
           inr (
             opens_still q a m b x one accepted k l none,
             (accepted_kept q a m b x one accepted k l).pieces,
-            End,
+            EndAnswered,
             (accepted_kept q a m b x one accepted k l).reads,
             inl (tt, (accepted_kept q a m b x one accepted k l).within),
           ),

@@ -6,12 +6,12 @@ use Rattle.gcx_base.specs.Limits.{full_limits}
 use Rattle.gcx_io.specs.Views.{ShelfView, SinkView}
 use Rattle.gcx_io.specs.Writing.{Takes, Owes, joined}
 use Rattle.gcx_model.specs.Query.{ExprTree}
-use Rattle.gcx_model.specs.Tree.{Token}
+use Rattle.gcx_model.specs.Tree.{TreeToken}
 use Rattle.run_words.specs.Reading.{IsShort, ReadsOn}
-use Rattle.run_words.specs.Stops.{Stop, More, End, Fault, IsCalm, is_end}
+use Rattle.run_words.specs.Stops.{Stop, More, EndAnswered, FaultAnswered, IsCalm, is_end}
 use Rattle.time_laws.specs.Checking.{Yes, No, ReadFault as Cut, IsFront, Judges, fitted, line_ends}
 use Rattle.gcx_cmd.specs.DocumentDoes.{Over, HasFault, IsClean, IsCut, SeesTokens}
-use Rattle.gcx_cmd.specs.Outside.{Outside, Untouched}
+use Rattle.gcx_cmd.specs.World.{World, Untouched}
 use Rattle.gcx_cmd.specs.QueryDoes.{AcceptsQuery, NotBegun, RefusesQuery}
 use Rattle.gcx_cmd.specs.Reads.{Misses, Opens, Reads}
 use Rattle.gcx_cmd.specs.Texts.{lines_line}
@@ -25,20 +25,20 @@ StopsInTime text pieces = (before : List (List ℕ)) (last : List ℕ) → piece
 
 -- QUERY is accepted, DOC is whole and has these tokens, and TRACE was opened behind it and its reads stand so, none longer than a
 -- read asks for.
-pub record OverTrace (q d t : List ℕ) (a b : Outside) (x : List ExprTree) (ts : List Token) (pieces : List (List ℕ)) (stop : Stop) : Type 0 where
+pub record OverTrace (q d t : List ℕ) (a b : World) (x : List ExprTree) (ts : List TreeToken) (pieces : List (List ℕ)) (stop : Stop) : Type 0 where
   pub three : Opens 3 a.shelf b.shelf
   pub query : AcceptsQuery q a.shelf b.shelf x
   pub doc_pieces : List (List ℕ)
-  pub doc : Reads d (length a.shelf.given + 1) a.shelf b.shelf doc_pieces End
-  pub reads_on : ReadsOn full_limits doc_pieces End
-  pub tokens : SeesTokens doc_pieces End ts
+  pub doc : Reads d (length a.shelf.given + 1) a.shelf b.shelf doc_pieces EndAnswered
+  pub reads_on : ReadsOn full_limits doc_pieces EndAnswered
+  pub tokens : SeesTokens doc_pieces EndAnswered ts
   pub trace : Reads t (length a.shelf.given + 2) a.shelf b.shelf pieces stop
   pub short : All IsShort pieces
   pub in_time : StopsInTime (trace_text x ts) pieces
 
 -- All of TRACE was read, and it is this text.
 abbrev pub IsText : (text : List ℕ) → (pieces : List (List ℕ)) → Stop → Type 0
-IsText text pieces stop = (stop ≡ End) × Judges text (Yes (fitted (line_ends text))) (joined pieces) true
+IsText text pieces stop = (stop ≡ EndAnswered) × Judges text (Yes (fitted (line_ends text))) (joined pieces) true
 
 -- nothing of TRACE was read
 abbrev pub IsUnread : (pieces : List (List ℕ)) → Stop → Type 0
@@ -50,15 +50,15 @@ ChecksBy text status.Ok ps stop a b = IsText text ps stop × Takes a b (lines_li
 ChecksBy text status.Usage ps stop a b = ⊥
 ChecksBy text (status.QueryRefused f) ps stop a b = ⊥
 ChecksBy text (status.DocumentRefused f) ps stop a b = ⊥
-ChecksBy text status.ReadFault ps stop a b = (stop ≡ Fault) × Judges text Cut (joined ps) false × (b ≡ a)
+ChecksBy text status.ReadFault ps stop a b = (stop ≡ FaultAnswered) × Judges text Cut (joined ps) false × (b ≡ a)
 ChecksBy text status.WriteFault ps stop a b = IsText text ps stop × Owes a b [] (lines_line (fitted (line_ends text)))
 ChecksBy text status.Memory ps stop a b = (IsUnread ps stop ⊎ IsText text ps stop) × (b ≡ a)
 ChecksBy text (status.TraceRefused n) ps stop a b = IsCalm stop × Judges text (No n) (joined ps) (is_end stop) × (b ≡ a)
 
 -- TRACE was judged against the trace of QUERY's one query x over DOC. Nothing else is written, and the store isn't used.
-pub record Checks (q d t : List ℕ) (s : Status) (a b : Outside) : Type 0 where
+pub record Checks (q d t : List ℕ) (s : Status) (a b : World) : Type 0 where
   pub x : List ExprTree
-  pub ts : List Token
+  pub ts : List TreeToken
   pub pieces : List (List ℕ)
   pub stop : Stop
   pub over : OverTrace q d t a b x ts pieces stop
@@ -67,7 +67,7 @@ pub record Checks (q d t : List ℕ) (s : Status) (a b : Outside) : Type 0 where
   pub store : b.store ≡ a.store
 
 -- QUERY is accepted, DOC was opened and this holds of its reads. TRACE isn't opened, and nothing is written.
-pub record EndsInDocument (q d : List ℕ) (Says : List (List ℕ) → Stop → Type 0) (a b : Outside) : Type 0 where
+pub record EndsInDocument (q d : List ℕ) (Says : List (List ℕ) → Stop → Type 0) (a b : World) : Type 0 where
   pub untouched : Untouched a b
   pub x : List ExprTree
   pub pieces : List (List ℕ)
@@ -76,17 +76,17 @@ pub record EndsInDocument (q d : List ℕ) (Says : List (List ℕ) → Stop → 
   pub says : Says pieces stop
 
 -- QUERY is accepted and DOC is whole, but TRACE isn't there.
-pub record LacksTrace (q d t : List ℕ) (a b : Outside) : Type 0 where
+pub record LacksTrace (q d t : List ℕ) (a b : World) : Type 0 where
   pub untouched : Untouched a b
   pub two : Misses 2 t a.shelf b.shelf
   pub x : List ExprTree
   pub query : AcceptsQuery q a.shelf b.shelf x
   pub pieces : List (List ℕ)
-  pub doc : Reads d (length a.shelf.given + 1) a.shelf b.shelf pieces End
-  pub reads_on : ReadsOn full_limits pieces End
-  pub clean : IsClean pieces End
+  pub doc : Reads d (length a.shelf.given + 1) a.shelf b.shelf pieces EndAnswered
+  pub reads_on : ReadsOn full_limits pieces EndAnswered
+  pub clean : IsClean pieces EndAnswered
 
-abbrev pub CheckDoes : (q d t : List ℕ) → Status → Outside → Outside → Type 0
+abbrev pub CheckDoes : (q d t : List ℕ) → Status → World → World → Type 0
 CheckDoes q d t status.Ok a b = Checks q d t status.Ok a b
 CheckDoes q d t status.Usage a b = ⊥
 CheckDoes q d t (status.QueryRefused f) a b = RefusesQuery q f a b
@@ -112,13 +112,13 @@ pub record OverText (t text : List ℕ) (Says : List (List ℕ) → Stop → Typ
 
 -- how the judging of TRACE ends
 abbrev pub TraceDoes : (t text : List ℕ) → Result ℕ Status → (a b : ShelfView) → Type 0
-TraceDoes t text (result.Ok lines) a b = OverText t text (λ ps stop. (stop ≡ End) × Judges text (Yes lines) (joined ps) true) a b
+TraceDoes t text (result.Ok lines) a b = OverText t text (λ ps stop. (stop ≡ EndAnswered) × Judges text (Yes lines) (joined ps) true) a b
 TraceDoes t text (result.Err status.Ok) a b = ⊥
 TraceDoes t text (result.Err status.Usage) a b = ⊥
 TraceDoes t text (result.Err (status.QueryRefused f)) a b = ⊥
 TraceDoes t text (result.Err (status.DocumentRefused f)) a b = ⊥
 TraceDoes t text (result.Err status.ReadFault) a b =
-    Misses 0 t a b ⊎ OverText t text (λ ps stop. (stop ≡ Fault) × Judges text Cut (joined ps) false) a b
+    Misses 0 t a b ⊎ OverText t text (λ ps stop. (stop ≡ FaultAnswered) × Judges text Cut (joined ps) false) a b
 TraceDoes t text (result.Err status.WriteFault) a b = ⊥
 TraceDoes t text (result.Err status.Memory) a b = Opens 0 a b ⊎ OverText t text IsUnread a b
 TraceDoes t text (result.Err (status.TraceRefused n)) a b =

@@ -12,19 +12,19 @@ use Rattle.gcx_model.specs.Faults.{FaultIs}
 use Rattle.gcx_model.specs.Query.{ExprTree}
 use Rattle.gcx_model.specs.declared.fault.DocFault.{DocFault}
 use Rattle.run_words.specs.Reading.{ReadsOn}
-use Rattle.run_words.specs.Stops.{Stop, End, Fault, IsCalm, is_end}
+use Rattle.run_words.specs.Stops.{Stop, EndAnswered, FaultAnswered, IsCalm, is_end}
 use Rattle.gcx_model.specs.Seen.{SeenIs}
-use Rattle.gcx_model.specs.Tree.{Token, Tree}
+use Rattle.gcx_model.specs.Tree.{TreeToken, Tree}
 use Rattle.doc_reader.specs.Standing.{said_of, Token as Given}
 use Rattle.tree_read.specs.Document.{AreTokens, BytesSpell, IsWhole}
-use Rattle.gcx_cmd.specs.Outside.{Outside}
+use Rattle.gcx_cmd.specs.World.{World}
 use Rattle.gcx_cmd.specs.QueryDoes.{AcceptsQuery}
 use Rattle.gcx_cmd.specs.Reads.{Reads, Opens, Misses}
 use Rattle.gcx_cmd.specs.declared.status.Status.{Status}
 use Rattle.gcx_cmd.specs.declared.status.Status.TheVariants as status
 
 -- QUERY is accepted, DOC was opened behind it and its reads stand so; no read came behind a fault of its bytes.
-pub record Over (q d : List ℕ) (a b : Outside) (x : List ExprTree) (pieces : List (List ℕ)) (stop : Stop) : Type 0 where
+pub record Over (q d : List ℕ) (a b : World) (x : List ExprTree) (pieces : List (List ℕ)) (stop : Stop) : Type 0 where
   pub two : Opens 2 a.shelf b.shelf
   pub query : AcceptsQuery q a.shelf b.shelf x
   pub doc : Reads d (length a.shelf.given + 1) a.shelf b.shelf pieces stop
@@ -32,7 +32,7 @@ pub record Over (q d : List ℕ) (a b : Outside) (x : List ExprTree) (pieces : L
 
 -- the whole document was read, and has no fault
 pub record IsClean (pieces : List (List ℕ)) (stop : Stop) : Type 0 where
-  pub at_end : stop ≡ End
+  pub at_end : stop ≡ EndAnswered
   pub clean : FaultIs full_limits (joined pieces) true None
 
 -- what was read has this fault
@@ -42,11 +42,11 @@ pub record HasFault (f : DocFault) (pieces : List (List ℕ)) (stop : Stop) : Ty
 
 -- a read failed, and what was read before has no fault
 pub record IsCut (pieces : List (List ℕ)) (stop : Stop) : Type 0 where
-  pub at_fault : stop ≡ Fault
+  pub at_fault : stop ≡ FaultAnswered
   pub clean : FaultIs full_limits (joined pieces) false None
 
 -- The whole document was read, and these are its tokens.
-pub record SeesTokens (pieces : List (List ℕ)) (stop : Stop) (tokens : List Token) : Type 0 where
+pub record SeesTokens (pieces : List (List ℕ)) (stop : Stop) (tokens : List TreeToken) : Type 0 where
   pub clean : IsClean pieces stop
   pub seen : SeenIs full_limits (joined pieces) true tokens
 
@@ -79,12 +79,12 @@ DocDoes d Says Before (status.TraceRefused n) a b = ⊥
 
 -- all of DOC was read, and this is its tree
 pub record ReadsTree (tree : Tree) (pieces : List (List ℕ)) (stop : Stop) : Type 0 where
-  pub at_end : stop ≡ End
+  pub at_end : stop ≡ EndAnswered
   pub whole : IsWhole (joined pieces) tree
 
 -- all of DOC was read, and these are its tokens
-pub record ReadsAll (tokens : List Token) (pieces : List (List ℕ)) (stop : Stop) : Type 0 where
-  pub at_end : stop ≡ End
+pub record ReadsAll (tokens : List TreeToken) (pieces : List (List ℕ)) (stop : Stop) : Type 0 where
+  pub at_end : stop ≡ EndAnswered
   pub are : AreTokens (joined pieces) tokens
 
 -- how the reading of DOC ends; at Ok this holds of what is made of it

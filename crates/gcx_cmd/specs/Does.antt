@@ -13,7 +13,7 @@ use Rattle.gcx_cmd.specs.ExplainDoes.{ExplainDoes}
 use Rattle.gcx_cmd.specs.GenDoes.{GenDoes}
 use Rattle.gcx_cmd.specs.Keeps.{Keeps}
 use Rattle.gcx_cmd.specs.ManyDoes.{ManyDoes}
-use Rattle.gcx_cmd.specs.Outside.{Outside, StoreView, beside}
+use Rattle.gcx_cmd.specs.World.{World, StoreView, beside}
 use Rattle.gcx_cmd.specs.PeakDoes.{PeakDoes}
 use Rattle.gcx_cmd.specs.RunDoes.{RunDoes}
 use Rattle.gcx_cmd.specs.SelfrunDoes.{SelfrunDoes}
@@ -22,7 +22,7 @@ use Rattle.gcx_cmd.specs.declared.status.Status.{Status}
 use Rattle.gcx_cmd.specs.declared.status.Status.TheVariants as status
 
 -- the table of the commands
-abbrev pub Obeys : Command → Status → Outside → Outside → Type 0
+abbrev pub Obeys : Command → Status → World → World → Type 0
 Obeys (Run trace ahead query document) s a b = RunDoes trace ahead query document s a b
 Obeys (Whole query document) s a b = WholeDoes query document s a b
 Obeys (Explain query) s a b = ExplainDoes query s a b
@@ -33,12 +33,12 @@ Obeys (Many document pairs) s a b = ManyDoes document pairs s a b
 Obeys (Check query document trace) s a b = CheckDoes query document trace s a b
 
 -- the command was obeyed; where there is none, nothing happened
-abbrev pub DoesIf : Option Command → Status → Outside → Outside → Type 0
+abbrev pub DoesIf : Option Command → Status → World → World → Type 0
 DoesIf None s a b = ((s ≡ status.Usage) ⊎ (s ≡ status.Memory)) × (b ≡ a)
 DoesIf (Some c) s a b = Keeps c s a b × Obeys c s a b
 
 -- this command was obeyed
-abbrev pub DoesCommand : Command → Status → Outside → Outside → Type 0
+abbrev pub DoesCommand : Command → Status → World → World → Type 0
 DoesCommand c s a b = DoesIf (Some c) s a b
 
 -- a command was obeyed that lends files and the output alone, whatever else is outside
@@ -62,14 +62,14 @@ Tells status.Memory a b = Takes a b (line_of status.Memory) ⊎ Owes a b [] (lin
 Tells (status.TraceRefused n) a b = Takes a b (line_of (status.TraceRefused n)) ⊎ Owes a b [] (line_of (status.TraceRefused n))
 
 -- The line of the status went to the diagnoses, and nothing else happened.
-pub record Diagnoses (s : Status) (a b : Outside) : Type 0 where
+pub record Diagnoses (s : Status) (a b : World) : Type 0 where
   pub shelf : b.shelf ≡ a.shelf
   pub out : b.out ≡ a.out
   pub store : b.store ≡ a.store
   pub line : Tells s a.err b.err
 
 -- The command that the words are was obeyed, and then the line of the status was written.
-pub record Does (words : List (List ℕ)) (s : Status) (a b : Outside) : Type 0 where
-  pub between : Outside
+pub record Does (words : List (List ℕ)) (s : Status) (a b : World) : Type 0 where
+  pub between : World
   pub done : DoesIf (command_of words) s a between
   pub diagnosed : Diagnoses s between b

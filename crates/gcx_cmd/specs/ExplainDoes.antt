@@ -3,7 +3,7 @@ use Rattle.std.specs.Prelude.{◌≡◌, ℕ, List, [], None}
 use Rattle.gcx_io.specs.Views.{SinkView}
 use Rattle.gcx_io.specs.Writing.{Takes, Owes}
 use Rattle.gcx_model.specs.Query.{ExprTree}
-use Rattle.gcx_cmd.specs.Outside.{Outside}
+use Rattle.gcx_cmd.specs.World.{World}
 use Rattle.gcx_cmd.specs.QueryDoes.{AcceptsQuery, RefusesQuery, NotBegun}
 use Rattle.gcx_cmd.specs.Reads.{Opens}
 use Rattle.gcx_cmd.specs.Texts.{explain_text}
@@ -11,7 +11,7 @@ use Rattle.gcx_cmd.specs.declared.status.Status.{Status}
 use Rattle.gcx_cmd.specs.declared.status.Status.TheVariants as status
 
 -- QUERY is accepted, and this was written of the text of its plan. Nothing else is written, and the store isn't used.
-pub record Explains (q : List ℕ) (Writes : (a b : SinkView) → (text : List ℕ) → Type 0) (a b : Outside) : Type 0 where
+pub record Explains (q : List ℕ) (Writes : (a b : SinkView) → (text : List ℕ) → Type 0) (a b : World) : Type 0 where
   pub one : Opens 1 a.shelf b.shelf
   pub x : List ExprTree
   pub query : AcceptsQuery q a.shelf b.shelf x
@@ -19,7 +19,7 @@ pub record Explains (q : List ℕ) (Writes : (a b : SinkView) → (text : List �
   pub err : b.err ≡ a.err
   pub store : b.store ≡ a.store
 
-abbrev pub ExplainDoes : (q : List ℕ) → Status → Outside → Outside → Type 0
+abbrev pub ExplainDoes : (q : List ℕ) → Status → World → World → Type 0
 ExplainDoes q status.Ok a b = Explains q Takes a b
 ExplainDoes q status.Usage a b = ⊥
 ExplainDoes q (status.QueryRefused f) a b = RefusesQuery q f a b

@@ -8,13 +8,13 @@ use Rattle.gcx_words.specs.declared.command.Command.{Command}
 use Rattle.many_run.specs.Files.{NamesStay}
 use Rattle.gcx_cmd.specs.Commands.{IsMany, IsTraced, LacksFile, outs_of}
 use Rattle.gcx_cmd.specs.Main.{HasNoMemory}
-use Rattle.gcx_cmd.specs.Outside.{Outside}
+use Rattle.gcx_cmd.specs.World.{World}
 use Rattle.gcx_cmd.specs.declared.status.Status.{Status}
 use Rattle.gcx_cmd.specs.declared.status.Status.TheVariants as status
 
 -- A read fault comes only where the shelf's count rose or the file whose attach failed isn't there; a write fault only where that of
 -- the output rose, with a trace that of the diagnoses, or of `many` the shelf's count of write faults.
-abbrev pub HasCauses : Command → Status → Outside → Outside → Type 0
+abbrev pub HasCauses : Command → Status → World → World → Type 0
 HasCauses c status.Ok a b = ⊤
 HasCauses c status.Usage a b = ⊤
 HasCauses c (status.QueryRefused f) a b = ⊤
@@ -26,7 +26,7 @@ HasCauses c status.Memory a b = ⊤
 HasCauses c (status.TraceRefused n) a b = ⊤
 
 -- no count falls
-pub record Counts (a b : Outside) : Type 0 where
+pub record Counts (a b : World) : Type 0 where
   pub shelf : a.shelf.faults ≤ b.shelf.faults
   pub write_faults : a.shelf.write_faults ≤ b.shelf.write_faults
   pub out : a.out.faults ≤ b.out.faults
@@ -47,7 +47,7 @@ pub record KeepsAlike (a b : ShelfView) : Type 0 where
   pub unwritten : b.write_faults ≡ a.write_faults
   pub given : (k : ℕ) → k < length a.given → slice_get b.given k ≡ slice_get a.given k
 
-pub record Keeps (c : Command) (s : Status) (a b : Outside) : Type 0 where
+pub record Keeps (c : Command) (s : Status) (a b : World) : Type 0 where
   pub all : (IsMany c → ⊥) → KeepsAlike a.shelf b.shelf
   pub files : KeepsFiles (outs_of c) a.shelf b.shelf
   pub counts : Counts a b

@@ -1,7 +1,7 @@
 pub mod Main
 pub mod Commands
 pub mod Accepted
-pub mod Outside
+pub mod World
 pub mod Reads
 pub mod QueryDoes
 pub mod DocumentDoes

@@ -13,7 +13,7 @@ use Rattle.xq_parse.specs.Spelling.{QuerySpells}
 use Rattle.xq_parse.specs.Faults.{TextFaultOf, HasOnlyQuery, HasOnlyRefusal}
 use Rattle.signoff_place.specs.Refused.{refusal_of}
 use Rattle.gcx_cmd.specs.declared.status.Status.{Status}
-use Rattle.gcx_cmd.specs.declared.status.Status.TheVariants.{Ok, Usage, QueryRefused, DocumentRefused, ReadFault, WriteFault, Memory, TraceRefused}
+use Rattle.gcx_cmd.specs.declared.status.Status.TheVariants as statuses
 
 -- The bytes spell the query, which is sound, and its core passes no limit.
 pub record Accepts (bytes : List ℕ) (q : List ExprTree) : Type 0 where
@@ -57,28 +57,28 @@ IsDocument bytes = FaultIs full_limits bytes true option.None
 
 -- what each status says of the query's bytes
 abbrev pub SaysOfQuery : Status → List ℕ → Type 0
-SaysOfQuery Ok query = IsOneQuery query
-SaysOfQuery Usage query = ⊥
-SaysOfQuery (QueryRefused f) query = QueryFaultOf query f
-SaysOfQuery (DocumentRefused f) query = IsOneQuery query
-SaysOfQuery ReadFault query = ⊤
-SaysOfQuery WriteFault query = IsOneQuery query
-SaysOfQuery Memory query = ⊤
-SaysOfQuery (TraceRefused n) query = IsOneQuery query
+SaysOfQuery statuses.Ok query = IsOneQuery query
+SaysOfQuery statuses.Usage query = ⊥
+SaysOfQuery (statuses.QueryRefused f) query = QueryFaultOf query f
+SaysOfQuery (statuses.DocumentRefused f) query = IsOneQuery query
+SaysOfQuery statuses.ReadFault query = ⊤
+SaysOfQuery statuses.WriteFault query = IsOneQuery query
+SaysOfQuery statuses.Memory query = ⊤
+SaysOfQuery (statuses.TraceRefused n) query = IsOneQuery query
 
 -- what each status says of the document's bytes
 abbrev pub SaysOfDocument : Status → List ℕ → Type 0
-SaysOfDocument Ok document = IsDocument document
-SaysOfDocument Usage document = ⊤
-SaysOfDocument (QueryRefused f) document = ⊤
-SaysOfDocument (DocumentRefused f) document = FaultIs full_limits document true (option.Some f)
-SaysOfDocument ReadFault document = ⊤
-SaysOfDocument WriteFault document = ⊤
-SaysOfDocument Memory document = ⊤
-SaysOfDocument (TraceRefused n) document = IsDocument document
+SaysOfDocument statuses.Ok document = IsDocument document
+SaysOfDocument statuses.Usage document = ⊤
+SaysOfDocument (statuses.QueryRefused f) document = ⊤
+SaysOfDocument (statuses.DocumentRefused f) document = FaultIs full_limits document true (option.Some f)
+SaysOfDocument statuses.ReadFault document = ⊤
+SaysOfDocument statuses.WriteFault document = ⊤
+SaysOfDocument statuses.Memory document = ⊤
+SaysOfDocument (statuses.TraceRefused n) document = IsDocument document
 
 -- want of memory stands in no refusal
 abbrev pub HasNoMemory : Status → Type 0
-HasNoMemory (QueryRefused f) = f ≢ query_fault.Memory
-HasNoMemory (DocumentRefused f) = f ≢ doc_fault.Memory
+HasNoMemory (statuses.QueryRefused f) = f ≢ query_fault.Memory
+HasNoMemory (statuses.DocumentRefused f) = f ≢ doc_fault.Memory
 HasNoMemory status = ⊤

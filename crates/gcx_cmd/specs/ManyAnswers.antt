@@ -10,13 +10,13 @@ use Rattle.gcx_model.specs.Query.{ExprTree}
 use Rattle.gcx_words.specs.Words.{command_of}
 use Rattle.gcx_words.specs.declared.command.Command.TheVariants.{Many, Run}
 use Rattle.gcx_words.specs.declared.pairs.Pair.{Pair}
-use Rattle.run_words.specs.Ends.{EndsRun, NoMemory, ReadFailed, Refused, RunEnd, Whole, WriteFailed}
+use Rattle.run_words.specs.Ends.{EndsRun, NoMemory, ReadFailed, Refused, RunEnd, Completed, WriteFailed}
 use Rattle.run_words.specs.Stops.{Stop}
 use Rattle.run_words.specs.Writing.{Sinks}
 use Rattle.tree_read.specs.Document.{BytesSpell}
 use Rattle.many_run.specs.Runs.{EndsOne}
 use Rattle.gcx_cmd.specs.Main.{Accepts}
-use Rattle.gcx_cmd.specs.Outside.{Outside}
+use Rattle.gcx_cmd.specs.World.{World}
 use Rattle.gcx_cmd.specs.Running.{Settles}
 use Rattle.gcx_cmd.specs.Tracing.{IsQueryTrace}
 use Rattle.gcx_cmd.specs.declared.status.Status.{Status}
@@ -30,7 +30,7 @@ AnswersRun words s names a b = (trace : Bool) (ahead : ℕ) (query document quer
     → (q : List ExprTree) (d : Nodes) → Accepts query_bytes q → BytesSpell document_bytes d → Takes a b (answer q d)
 
 -- At Ok each OUT holds the answer of its QUERY over DOC, where the shelf tells its names before and afterwards.
-abbrev pub AnswersMany : List (List ℕ) → Status → Outside → Outside → Type 0
+abbrev pub AnswersMany : List (List ℕ) → Status → World → World → Type 0
 AnswersMany words s a b = (document : List ℕ) (pairs : List Pair) → command_of words ≡ Some (Many document pairs) → s ≡ status.Ok
     → IsTelling b.shelf.names → (i : ℕ) (p : Pair) (query_bytes document_bytes : List ℕ) → slice_get pairs i ≡ Some p
     → content_of a.shelf.names p.query ≡ Some query_bytes → content_of a.shelf.names document ≡ Some document_bytes
@@ -38,7 +38,7 @@ AnswersMany words s a b = (document : List ℕ) (pairs : List Pair) → command_
 
 -- all that is settled is written at this end
 abbrev pub WritesSettled : RunEnd → Type 0
-WritesSettled Whole = ⊤
+WritesSettled Completed = ⊤
 WritesSettled (Refused f) = ⊤
 WritesSettled ReadFailed = ⊤
 WritesSettled WriteFailed = ⊥

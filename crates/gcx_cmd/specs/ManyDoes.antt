@@ -16,7 +16,7 @@ use Rattle.gcx_model.specs.PlanView.{plan_tree}
 use Rattle.gcx_model.specs.Query.{ExprTree}
 use Rattle.gcx_model.specs.declared.plan.Plan.{Plan}
 use Rattle.gcx_words.specs.declared.pairs.Pair.{Pair}
-use Rattle.run_words.specs.Ends.{NoMemory, ReadFailed, Refused, RunEnd, Whole, WriteFailed}
+use Rattle.run_words.specs.Ends.{NoMemory, ReadFailed, Refused, RunEnd, Completed, WriteFailed}
 use Rattle.run_words.specs.Stops.{Stop}
 use Rattle.engine.specs.Runs.{run_end}
 use Rattle.engine.specs.declared.report.Ended.{Ended}
@@ -25,7 +25,7 @@ use Rattle.many_run.specs.Files.{name_of_handle, sink_at}
 use Rattle.many_run.specs.Runs.{EachPlanEnds, EndsOne, RunsInto}
 use Rattle.gcx_cmd.specs.DocumentDoes.{SpellsOneDocument}
 use Rattle.gcx_cmd.specs.Keeps.{KeepsFiles}
-use Rattle.gcx_cmd.specs.Outside.{Outside, Untouched}
+use Rattle.gcx_cmd.specs.World.{World, Untouched}
 use Rattle.gcx_cmd.specs.QueryDoes.{AcceptsQuery, StopsInQuery}
 use Rattle.gcx_cmd.specs.Reads.{CausesFault, KeepsShelf, Opens}
 use Rattle.gcx_cmd.specs.Running.{IsPlanOf, Settles}
@@ -138,7 +138,7 @@ pub record TakeAnswers (xs : List (List ExprTree)) (outs : List Handle) (pieces 
 
 -- how it ends with each status, of the files alone
 abbrev pub ManyEnds : (d : List ℕ) → List Pair → Status → (a b : ShelfView) → Type 0
-ManyEnds d ps status.Ok a b = (r : RunsMany d ps Whole a b) × TakeAnswers r.xs r.outs r.run.pieces r.begun b
+ManyEnds d ps status.Ok a b = (r : RunsMany d ps Completed a b) × TakeAnswers r.xs r.outs r.run.pieces r.begun b
 ManyEnds d ps status.Usage a b = ⊥
 ManyEnds d ps (status.QueryRefused f) a b = NoneBegun d ps (status.QueryRefused f) a b
 ManyEnds d ps (status.DocumentRefused f) a b = RunsMany d ps (Refused f) a b
@@ -148,7 +148,7 @@ ManyEnds d ps status.Memory a b = NoneBegun d ps status.Memory a b ⊎ RunsMany 
 ManyEnds d ps (status.TraceRefused n) a b = ⊥
 
 -- Nothing goes to the output, and nothing to the diagnoses before the line of the status; the lent store isn't used.
-abbrev pub ManyDoes : (d : List ℕ) → List Pair → Status → Outside → Outside → Type 0
+abbrev pub ManyDoes : (d : List ℕ) → List Pair → Status → World → World → Type 0
 ManyDoes d ps s a b = Untouched a b × ManyEnds d ps s a.shelf b.shelf
 
 -- The rest is said of private functions.

@@ -4,10 +4,10 @@ use Rattle.std.specs.FinMap as map
 use Rattle.gcx_io.specs.Views.{SinkView}
 use Rattle.gcx_io.specs.Writing.{Takes, Owes}
 use Rattle.gcx_model.specs.Query.{ExprTree}
-use Rattle.gcx_model.specs.Tree.{Token}
+use Rattle.gcx_model.specs.Tree.{TreeToken}
 use Rattle.run_words.specs.Stops.{Stop, IsCalm}
 use Rattle.gcx_cmd.specs.DocumentDoes.{Over, HasFault, IsCut, SeesTokens}
-use Rattle.gcx_cmd.specs.Outside.{Outside}
+use Rattle.gcx_cmd.specs.World.{World}
 use Rattle.gcx_cmd.specs.QueryDoes.{RefusesQuery, NotBegun}
 use Rattle.gcx_cmd.specs.RunDoes.{HoldsSeen}
 use Rattle.gcx_cmd.specs.Running.{UnlessOutOfMemory}
@@ -17,17 +17,17 @@ use Rattle.gcx_cmd.specs.declared.status.Status.TheVariants as status
 
 -- what a status says of DOC, of which these pieces were read, and of the line of the numbers
 abbrev pub EndsPeak : List ExprTree → Status → List (List ℕ) → Stop → (a b : SinkView) → Type 0
-EndsPeak x status.Ok ps stop a b = (ts : List Token) × SeesTokens ps stop ts × Takes a b (peak_text x ts)
+EndsPeak x status.Ok ps stop a b = (ts : List TreeToken) × SeesTokens ps stop ts × Takes a b (peak_text x ts)
 EndsPeak x status.Usage ps stop a b = ⊥
 EndsPeak x (status.QueryRefused f) ps stop a b = ⊥
 EndsPeak x (status.DocumentRefused f) ps stop a b = HasFault f ps stop × (b ≡ a)
 EndsPeak x status.ReadFault ps stop a b = IsCut ps stop × (b ≡ a)
-EndsPeak x status.WriteFault ps stop a b = (ts : List Token) × SeesTokens ps stop ts × Owes a b [] (peak_text x ts)
+EndsPeak x status.WriteFault ps stop a b = (ts : List TreeToken) × SeesTokens ps stop ts × Owes a b [] (peak_text x ts)
 EndsPeak x status.Memory ps stop a b = IsCalm stop × (b ≡ a)
 EndsPeak x (status.TraceRefused n) ps stop a b = ⊥
 
 -- The numbers of a run of QUERY's one query x over what DOC gave, a token at a time. No answer is written, and no trace.
-pub record Measured (q d : List ℕ) (s : Status) (a b : Outside) : Type 0 where
+pub record Measured (q d : List ℕ) (s : Status) (a b : World) : Type 0 where
   pub x : List ExprTree
   pub pieces : List (List ℕ)
   pub stop : Stop
@@ -36,7 +36,7 @@ pub record Measured (q d : List ℕ) (s : Status) (a b : Outside) : Type 0 where
   pub err : b.err ≡ a.err
   pub holds : UnlessOutOfMemory s (HoldsSeen x 1 pieces stop b.store)
 
-abbrev pub PeakDoes : (q d : List ℕ) → Status → Outside → Outside → Type 0
+abbrev pub PeakDoes : (q d : List ℕ) → Status → World → World → Type 0
 PeakDoes q d status.Ok a b = Measured q d status.Ok a b × (b.store.rows ≡ map.empty)
 PeakDoes q d status.Usage a b = ⊥
 PeakDoes q d (status.QueryRefused f) a b = RefusesQuery q f a b

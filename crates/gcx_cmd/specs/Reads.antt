@@ -5,7 +5,7 @@ use Rattle.gcx_io.specs.Causes.{Rose}
 use Rattle.gcx_io.specs.Shelf.{IsMissing, content_of}
 use Rattle.gcx_io.specs.Views.{Gave, HandleView, ShelfView, missed}
 use Rattle.gcx_io.specs.Writing.{IsSomeBytes, joined}
-use Rattle.run_words.specs.Stops.{Stop, More, End, last_call, IsCalm}
+use Rattle.run_words.specs.Stops.{Stop, More, EndAnswered, last_call, IsCalm}
 
 -- The handle was opened by the name; its reads, which asked for so many bytes each, gave these pieces, none empty, and
 -- stopped so. No call came after the end or a fault.
@@ -16,7 +16,7 @@ pub record ReadsAsking (asked : ℕ) (name : List ℕ) (h : ℕ) (a b : ShelfVie
   pub some : All IsSomeBytes pieces
   pub calls : handle.calls ≡ map (Gave asked) pieces ++ last_call asked stop
   pub told : Consumes (content_of a.names name) handle.left (joined pieces)
-  pub at_end : stop ≡ End → IsAtEnd handle.left
+  pub at_end : stop ≡ EndAnswered → IsAtEnd handle.left
 
 -- so DOC and TRACE are read,
 abbrev pub Reads : (name : List ℕ) → (h : ℕ) → (a b : ShelfView) → (pieces : List (List ℕ)) → Stop → Type 0

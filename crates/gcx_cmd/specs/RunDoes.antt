@@ -8,12 +8,12 @@ use Rattle.gcx_model.specs.Answer.{answer}
 use Rattle.gcx_model.specs.Document.{Nodes}
 use Rattle.gcx_model.specs.Query.{ExprTree}
 use Rattle.gcx_model.specs.Seen.{SeenIs}
-use Rattle.gcx_model.specs.Tree.{Token}
-use Rattle.run_words.specs.Ends.{EndsRun, Whole, Refused, ReadFailed, WriteFailed, NoMemory}
+use Rattle.gcx_model.specs.Tree.{TreeToken}
+use Rattle.run_words.specs.Ends.{EndsRun, Completed, Refused, ReadFailed, WriteFailed, NoMemory}
 use Rattle.run_words.specs.Stops.{Stop, is_end}
 use Rattle.run_words.specs.Writing.{Sinks}
 use Rattle.gcx_cmd.specs.DocumentDoes.{Over, SpellsOneDocument}
-use Rattle.gcx_cmd.specs.Outside.{Outside, StoreView, sinks_of}
+use Rattle.gcx_cmd.specs.World.{World, StoreView, sinks_of}
 use Rattle.gcx_cmd.specs.QueryDoes.{RefusesQuery, NotBegun}
 use Rattle.gcx_cmd.specs.Running.{Settles, Holds, UnlessOutOfMemory}
 use Rattle.gcx_cmd.specs.Tracing.{IsQueryTrace}
@@ -22,7 +22,7 @@ use Rattle.gcx_cmd.specs.declared.status.Status.TheVariants as status
 
 -- what a status says of a run over DOC of which these pieces were read
 abbrev pub EndsBy : List ExprTree → Bool → Status → List (List ℕ) → Stop → (a b : Sinks) → Type 0
-EndsBy x tracing status.Ok ps stop a b = EndsRun (Settles x) (IsQueryTrace x) full_limits tracing Whole ps stop a b
+EndsBy x tracing status.Ok ps stop a b = EndsRun (Settles x) (IsQueryTrace x) full_limits tracing Completed ps stop a b
 EndsBy x tracing status.Usage ps stop a b = ⊥
 EndsBy x tracing (status.QueryRefused f) ps stop a b = ⊥
 EndsBy x tracing (status.DocumentRefused f) ps stop a b = EndsRun (Settles x) (IsQueryTrace x) full_limits tracing (Refused f) ps stop a b
@@ -33,12 +33,12 @@ EndsBy x tracing (status.TraceRefused n) ps stop a b = ⊥
 
 -- The lent store has the rows of exactly the nodes that are held behind the tags read.
 pub record HoldsSeen (x : List ExprTree) (ahead : ℕ) (pieces : List (List ℕ)) (stop : Stop) (store : StoreView) : Type 0 where
-  pub tokens : List Token
+  pub tokens : List TreeToken
   pub seen : SeenIs full_limits (joined pieces) (is_end stop) tokens
   pub holds : Holds x ahead tokens store.rows store.most
 
 -- A run: of QUERY's one query x over what DOC gave.
-pub record Runs (tracing : Bool) (ahead : ℕ) (q d : List ℕ) (s : Status) (a b : Outside) : Type 0 where
+pub record Runs (tracing : Bool) (ahead : ℕ) (q d : List ℕ) (s : Status) (a b : World) : Type 0 where
   pub x : List ExprTree
   pub pieces : List (List ℕ)
   pub stop : Stop
@@ -52,7 +52,7 @@ pub record WritesAnswer (x : List ExprTree) (pieces : List (List ℕ)) (a b : Si
   pub spells : SpellsOneDocument (joined pieces) doc
   pub wrote : Takes a b (answer x doc)
 
-abbrev pub RunDoes : Bool → (ahead : ℕ) → (q d : List ℕ) → Status → Outside → Outside → Type 0
+abbrev pub RunDoes : Bool → (ahead : ℕ) → (q d : List ℕ) → Status → World → World → Type 0
 RunDoes tracing ahead q d status.Ok a b = (r : Runs tracing ahead q d status.Ok a b) × (b.store.rows ≡ map.empty) × WritesAnswer r.x r.pieces a.out b.out
 RunDoes tracing ahead q d status.Usage a b = ⊥
 RunDoes tracing ahead q d (status.QueryRefused f) a b = RefusesQuery q f a b

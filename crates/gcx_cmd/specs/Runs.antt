@@ -14,7 +14,7 @@ use Rattle.gcx_model.specs.PlanView.{plan_tree}
 use Rattle.gcx_model.specs.Points.{actions}
 use Rattle.gcx_model.specs.Query.{ExprTree}
 use Rattle.gcx_model.specs.Seen.{SeenIs, seen_tree}
-use Rattle.gcx_model.specs.Tree.{Token}
+use Rattle.gcx_model.specs.Tree.{TreeToken}
 use Rattle.gcx_model.specs.declared.plan.Plan.{Plan}
 use Rattle.node_store.specs.Rows.{Rows}
 use Rattle.buf_tree.specs.Row.{Row}
@@ -23,7 +23,7 @@ use Rattle.run_words.specs.Stops.{Stop, IsCalm}
 use Rattle.engine.specs.declared.report.Ended.TheVariants as end
 use Rattle.engine.specs.declared.report.Report.{Report}
 use Rattle.gcx_cmd.specs.DocumentDoes.{DocDoes, HasFault, IsClean, IsCut, OverDoc}
-use Rattle.gcx_cmd.specs.Outside.{Outside, StoreView, Untouched, both_sinks, sinks_of}
+use Rattle.gcx_cmd.specs.World.{World, StoreView, Untouched, both_sinks, sinks_of}
 use Rattle.gcx_cmd.specs.RunDoes.{EndsBy, HoldsSeen}
 use Rattle.gcx_cmd.specs.Running.{IsPlanOf, UnlessOutOfMemory}
 use Rattle.gcx_cmd.specs.SelfInput.{SelfInput}
@@ -32,7 +32,7 @@ use Rattle.gcx_cmd.specs.declared.status.Status.{Status}
 use Rattle.gcx_cmd.specs.declared.status.Status.TheVariants as status
 
 -- The report has the numbers of these tokens, with every action taken.
-pub record NumbersOf (q : List ExprTree) (ts : List Token) (report : Report) : Type 0 where
+pub record NumbersOf (q : List ExprTree) (ts : List TreeToken) (report : Report) : Type 0 where
   pub peak : report.peak ≡ peak_of (plan_of (normal q)) ts
   pub nodes : report.nodes ≡ length (seen_tree ts).nodes
   pub given : report.given ≡ sum_given (plan_of (normal q)) (seen_tree ts)
@@ -40,7 +40,7 @@ pub record NumbersOf (q : List ExprTree) (ts : List Token) (report : Report) : T
 
 -- It has those of the whole document in these pieces.
 pub record NumbersIn (q : List ExprTree) (pieces : List (List ℕ)) (report : Report) : Type 0 where
-  pub tokens : List Token
+  pub tokens : List TreeToken
   pub seen : SeenIs full_limits (joined pieces) true tokens
   pub numbers : NumbersOf q tokens report
 
@@ -59,7 +59,7 @@ pub record SourceRuns (tracing : Bool) (ahead : ℕ) (q : List ExprTree) (report
   pub numbers : ahead ≡ 1 → report.ended ≡ end.Ok → NumbersIn q pieces report
 
 -- a run over DOC, which is opened next
-abbrev pub DocumentRuns : Bool → (ahead : ℕ) → List ExprTree → (d : List ℕ) → Status → Outside → Outside → Type 0
+abbrev pub DocumentRuns : Bool → (ahead : ℕ) → List ExprTree → (d : List ℕ) → Status → World → World → Type 0
 DocumentRuns tracing ahead q d s a b =
     DocDoes d (λ s pieces stop. EndsBy q tracing s pieces stop (sinks_of a) (sinks_of b) × UnlessOutOfMemory s (HoldsSeen q ahead pieces stop b.store))
     (Untouched a b) s a.shelf b.shelf
@@ -92,7 +92,7 @@ SelfRuns seed count answer_bytes report =
     (i : SelfInput seed count) × (answer_bytes ≡ length (answer i.query i.nodes)) × NumbersOf i.query i.tokens report
 
 -- a run of a plan over DOC, as of each query whose plan it is
-abbrev pub PlanRuns : Bool → (ahead : ℕ) → Plan → (d : List ℕ) → Status → Outside → Outside → Type 0
+abbrev pub PlanRuns : Bool → (ahead : ℕ) → Plan → (d : List ℕ) → Status → World → World → Type 0
 PlanRuns tracing ahead plan d s a b = (q : List ExprTree) → IsPlanOf q (plan_tree plan) → DocumentRuns tracing ahead q d s a b
 
 -- and over what a source gave

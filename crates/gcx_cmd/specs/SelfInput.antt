@@ -5,7 +5,7 @@ use Rattle.gcx_gen.specs.Generated.{document}
 use Rattle.gcx_model.specs.Document.{Nodes}
 use Rattle.gcx_model.specs.Query.{ExprTree}
 use Rattle.gcx_model.specs.Seen.{SeenIs}
-use Rattle.gcx_model.specs.Tree.{Token}
+use Rattle.gcx_model.specs.Tree.{TreeToken}
 use Rattle.tree_read.specs.Document.{BytesSpell}
 use Rattle.xq_parse.specs.Faults.{HasOnlyQuery}
 use Rattle.gcx_cmd.specs.Main.{Accepts, IsDocument, IsQuery}
@@ -18,7 +18,7 @@ pub record SelfInput (seed count : ℕ) : Type 0 where
   pub only : HasOnlyQuery self_query query
   pub nodes : Nodes
   pub spelled : BytesSpell (document seed count) nodes
-  pub tokens : List Token
+  pub tokens : List TreeToken
   pub seen : SeenIs full_limits (document seed count) true tokens
 
 -- That query is accepted, and each such document is spelled and has no fault.

@@ -7,7 +7,7 @@ use Rattle.gcx_model.specs.Placed.{plan_of}
 use Rattle.gcx_model.specs.Points.{actions}
 use Rattle.gcx_model.specs.Query.{ExprTree}
 use Rattle.gcx_model.specs.Seen.{seen_tree}
-use Rattle.gcx_model.specs.Tree.{Token}
+use Rattle.gcx_model.specs.Tree.{TreeToken}
 use Rattle.signoff_place.specs.Explained.{explained}
 use Rattle.gcx_cmd.specs.Diagnosis.{newline}
 
@@ -24,14 +24,14 @@ answer_line answer peak nodes given taken = codes "answer " ++ (decimal answer +
 
 -- `peak` writes the greatest number of held nodes, the number of nodes, and the sums of Given and of Taken, over the tree of
 -- these tokens with every action taken
-abbrev pub peak_text : List ExprTree → List Token → List ℕ
+abbrev pub peak_text : List ExprTree → List TreeToken → List ℕ
 peak_text q ts =
     let plan = plan_of (normal q) in
     let P = seen_tree ts in
     peak_line (peak_of plan ts) (length P.nodes) (sum_given plan P) (sum_taken plan P (actions plan P))
 
 -- `selfrun` writes these behind the number of the answer's bytes
-abbrev pub selfrun_text : List ExprTree → List Token → (answer : List ℕ) → List ℕ
+abbrev pub selfrun_text : List ExprTree → List TreeToken → (answer : List ℕ) → List ℕ
 selfrun_text q ts answer =
     let plan = plan_of (normal q) in
     let P = seen_tree ts in

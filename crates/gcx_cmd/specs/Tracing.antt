@@ -6,12 +6,12 @@ use Rattle.gcx_model.specs.Normal.{normal}
 use Rattle.gcx_model.specs.Placed.{plan_of}
 use Rattle.gcx_model.specs.Query.{ExprTree}
 use Rattle.gcx_model.specs.Seen.{SeenIs}
-use Rattle.gcx_model.specs.Tree.{Token}
+use Rattle.gcx_model.specs.Tree.{TreeToken}
 
 -- the text of the trace of the query over these tokens
-abbrev pub trace_text : List ExprTree → List Token → List ℕ
+abbrev pub trace_text : List ExprTree → List TreeToken → List ℕ
 trace_text q ts = text_of_lines (trace_lines (plan_of (normal q)) ts)
 
 -- t is the trace of the tags read in the bytes
 abbrev pub IsQueryTrace : List ExprTree → List ℕ → (ended : Bool) → List ℕ → Type 0
-IsQueryTrace q bytes ended t = (ts : List Token) × SeenIs full_limits bytes ended ts × (t ≡ trace_text q ts)
+IsQueryTrace q bytes ended t = (ts : List TreeToken) × SeenIs full_limits bytes ended ts × (t ≡ trace_text q ts)

@@ -7,7 +7,7 @@ use Rattle.gcx_model.specs.Document.{Nodes}
 use Rattle.gcx_model.specs.Query.{ExprTree}
 use Rattle.run_words.specs.Stops.{Stop, IsCalm}
 use Rattle.gcx_cmd.specs.DocumentDoes.{Over, IsClean, HasFault, IsCut, SpellsOneDocument}
-use Rattle.gcx_cmd.specs.Outside.{Outside}
+use Rattle.gcx_cmd.specs.World.{World}
 use Rattle.gcx_cmd.specs.QueryDoes.{RefusesQuery, NotBegun}
 use Rattle.gcx_cmd.specs.declared.status.Status.{Status}
 use Rattle.gcx_cmd.specs.declared.status.Status.TheVariants as status
@@ -29,7 +29,7 @@ EndsWhole x status.Memory ps stop a b = IsCalm stop × (b ≡ a)
 EndsWhole x (status.TraceRefused n) ps stop a b = ⊥
 
 -- The answer of QUERY's one query x over the tree of what DOC gave. Nothing else is written, and the store isn't used.
-pub record Answers (q d : List ℕ) (s : Status) (a b : Outside) : Type 0 where
+pub record Answers (q d : List ℕ) (s : Status) (a b : World) : Type 0 where
   pub x : List ExprTree
   pub pieces : List (List ℕ)
   pub stop : Stop
@@ -38,7 +38,7 @@ pub record Answers (q d : List ℕ) (s : Status) (a b : Outside) : Type 0 where
   pub err : b.err ≡ a.err
   pub store : b.store ≡ a.store
 
-abbrev pub WholeDoes : (q d : List ℕ) → Status → Outside → Outside → Type 0
+abbrev pub WholeDoes : (q d : List ℕ) → Status → World → World → Type 0
 WholeDoes q d status.Ok a b = Answers q d status.Ok a b
 WholeDoes q d status.Usage a b = ⊥
 WholeDoes q d (status.QueryRefused f) a b = RefusesQuery q f a b

@@ -6,7 +6,7 @@ ghost use Rattle.gcx_words.specs.Words.{command_of, named};
 ghost use Rattle.gcx_cmd.specs.Completes.{Completes};
 ghost use Rattle.gcx_cmd.specs.Does.{Does, DoesCommand, DoesIf};
 ghost use Rattle.gcx_cmd.specs.ManyAnswers.{AnswersMany, AnswersRun};
-ghost use Rattle.gcx_cmd.specs.Outside.{IsSeen};
+ghost use Rattle.gcx_cmd.specs.World.{IsSeen};
 
 use crate::Status;
 use crate::checking::write_check;

@@ -1,7 +1,7 @@
 //! The line that says why a run didn't end well.
 ghost use Rattle.std.specs.Prelude.{◌≡◌, ◌≤◌, ◌++◌, ◌+◌, Some, None, length, IfSome};
 ghost use Rattle.arrayvec.specs.ArrayVec.{array_vec_len};
-ghost use Rattle.gcx_cmd.specs.declared.status.Status.TheVariants.{Ok as well};
+ghost use Rattle.gcx_cmd.specs.declared.status.Status.TheVariants as statuses;
 ghost use Rattle.gcx_cmd.specs.Diagnosis.{limit_words, query_line, document_line, line_of};
 ghost use Rattle.gcx_cmd.specs.Does.{Tells};
 ghost use Rattle.gcx_cmd.specs.Lines.{HasShortWords, bytes_of, line_bytes};
@@ -101,7 +101,7 @@ impl Line {
     fn of(status: Status) -> Option<Line>
         ensures line { line_bytes result ≡ line_of status }
         ensures short { IfSome result HasShortWords }
-        ensures silent { status ≡ well → result ≡ None }
+        ensures silent { status ≡ statuses.Ok → result ≡ None }
     {
         match status {
             Status::Ok => None,
@@ -144,7 +144,7 @@ fn text_of(line: Line) -> ArrayVec<u8, ROOM>
 pub fn diagnose<E: Sink>(err: &mut E, status: Status)
     ensures tells { Tells status (E.seen err.old) (E.seen err.new) }
     ensures later { (E.seen err.old).faults ≤ (E.seen err.new).faults }
-    ensures silent { status ≡ well → err.new ≡ err.old }
+    ensures silent { status ≡ statuses.Ok → err.new ≡ err.old }
 {
     if let Some(line) = Line::of(status) {
         let _ = write_all(err, text_of(line).as_slice());

@@ -11,11 +11,11 @@ ghost use Rattle.gcx_words.specs.declared.command.Command.TheVariants.{Many};
 ghost use Rattle.join_index.specs.Index.{IsIndex};
 ghost use Rattle.many_run.specs.Each.{OfEach};
 ghost use Rattle.many_run.specs.Files.{HandlesApart};
-ghost use Rattle.many_run.specs.Many.{IsOfCore};
+ghost use Rattle.run_part.specs.Part.{IsOfCore};
 ghost use Rattle.gcx_cmd.specs.Does.{DoesIf};
 ghost use Rattle.gcx_cmd.specs.Main.{HasNoMemory};
 ghost use Rattle.gcx_cmd.specs.ManyDoes.{AcceptsPlans, CausesAny, MakesOut, MakesOuts, ManyEnds, ManyKeeps, RunsPlans, StopsInOuts, StopsInQueries, create_status};
-ghost use Rattle.gcx_cmd.specs.Outside.{StoreView, beside};
+ghost use Rattle.gcx_cmd.specs.World.{StoreView, beside};
 ghost use Rattle.gcx_cmd.specs.Reads.{CausesFault};
 
 use crate::Status;

@@ -5,7 +5,7 @@ ghost use Rattle.gcx_model.specs.PlanView.{plan_tree};
 ghost use Rattle.gcx_words.specs.declared.command.Command.TheVariants.{Peak};
 ghost use Rattle.gcx_cmd.specs.Does.{DoesCommand};
 ghost use Rattle.gcx_cmd.specs.Main.{HasNoMemory};
-ghost use Rattle.gcx_cmd.specs.Outside.{IsSeenBeside};
+ghost use Rattle.gcx_cmd.specs.World.{IsSeenBeside};
 ghost use Rattle.gcx_cmd.specs.Reads.{CausesFault, KeepsShelf};
 ghost use Rattle.gcx_cmd.specs.Running.{IsPlaced};
 ghost use Rattle.gcx_cmd.specs.Runs.{PlanMeasures, status_in};

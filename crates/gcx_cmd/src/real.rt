@@ -3,7 +3,7 @@ ghost use Rattle.std.specs.Prelude.{◌≡◌, None};
 ghost use Rattle.std.specs.FinMap as map;
 ghost use Rattle.gcx_words.specs.Words.{named};
 ghost use Rattle.gcx_cmd.specs.Does.{Does};
-ghost use Rattle.gcx_cmd.specs.Outside.{real_outside};
+ghost use Rattle.gcx_cmd.specs.World.{real_world};
 
 use crate::{Status, gcx_main};
 use buf_tree::Row;
@@ -25,8 +25,8 @@ pub fn gcx_files(
 ) -> Status
     requires new { (nodes.old.rows ≡ map.empty) × (nodes.old.most ≡ 0) }
     ensures does { Does words.now result
-        (real_outside files.old out.old err.old nodes.old.rows nodes.old.most)
-        (real_outside files.new out.new err.new nodes.new.rows nodes.new.most) }
+        (real_world files.old out.old err.old nodes.old.rows nodes.old.most)
+        (real_world files.new out.new err.new nodes.new.rows nodes.new.most) }
     ensures unnamed { named words.now ≡ None → result ≡ Status.Usage }
 {
     gcx_main(alloc, words, files, out, err, nodes)

@@ -6,7 +6,7 @@ ghost use Rattle.gcx_model.specs.PlanView.{plan_tree};
 ghost use Rattle.gcx_words.specs.declared.command.Command.TheVariants.{Run};
 ghost use Rattle.gcx_cmd.specs.Does.{DoesCommand};
 ghost use Rattle.gcx_cmd.specs.Main.{HasNoMemory};
-ghost use Rattle.gcx_cmd.specs.Outside.{IsSeen};
+ghost use Rattle.gcx_cmd.specs.World.{IsSeen};
 ghost use Rattle.gcx_cmd.specs.Reads.{CausesFault, KeepsShelf};
 ghost use Rattle.gcx_cmd.specs.Running.{IsPlaced};
 ghost use Rattle.gcx_cmd.specs.Runs.{PlanRuns, PlanRunsOver};

@@ -6,7 +6,7 @@ use Rattle.std.specs.Str.{bytes_eq}
 use Rattle.std.proofs.lemmas.Slice.Eq.{bytes_eq-Decides}
 use Rattle.gcx_io.specs.Held.{File, held, held_or_none, room_of, with_file}
 use Rattle.std.proofs.lemmas.Option.{slice_get-get_or}
-use Rattle.gcx_io.specs.Files.{while_whole, Sets, Keeps, IsPlaceOf}
+use Rattle.gcx_io.specs.Files.{while_whole, Sets, KeepsInFile, IsPlaceOf}
 use Rattle.gcx_io.specs.Shelf.{Maps, Appends}
 
 abbrev IsTrueBool : Bool → Type 0
@@ -65,7 +65,7 @@ held_before false files name = refl
 held_before true files name = refl
 
 -- where a piece is kept, it stands behind what the name held
-pub keeps_append : (all whole kept : Bool) (before after : List File) (name piece : List ℕ) → (whole ≡ true → Keeps kept before after name piece) → (whole ≡ false → kept ≡ false)
+pub keeps_append : (all whole kept : Bool) (before after : List File) (name piece : List ℕ) → (whole ≡ true → KeepsInFile kept before after name piece) → (whole ≡ false → kept ≡ false)
     → (owner : Option (List ℕ)) → owner ≡ Some name → Appends (while_whole whole (Some (Told all before))) (while_whole kept (Some (Told all after))) owner piece
 keeps_append all false false before after name piece k lost owner is = tt
 keeps_append all false true before after name piece k lost owner is = absurd (apart (lost refl))
@@ -92,7 +92,7 @@ file_is f name bytes n b = ap (λ (m : List ℕ). record { name = m; bytes = f.b
 -- a piece behind the bytes of the file of the name
 pub keeps_at : (kept : Bool) (before : List File) (i : ℕ) (x g : File) (name piece : List ℕ) → IsPlaceOf name before i → x ≡ get_or before i x → g.name ≡ x.name
     → (kept ≡ true → (g.bytes ≡ x.bytes ++ piece) × (x.room ≤ g.room + length piece)) → (kept ≡ false → (g.bytes ≡ x.bytes) × (x.room < length piece))
-    → Keeps kept before (slice_set before i g) name piece
+    → KeepsInFile kept before (slice_set before i g) name piece
 keeps_at kept before i x g name piece p is named more less = go kept refl
   where
     same : p.file ≡ x
@@ -107,7 +107,7 @@ keeps_at kept before i x g name piece p is named more less = go kept refl
     room_is : room_of before name ≡ x.room
     room_is = p.room ∙ ap (λ (f : File). f.room) same
 
-    go : (b : Bool) → kept ≡ b → Keeps b before (slice_set before i g) name piece
+    go : (b : Bool) → kept ≡ b → KeepsInFile b before (slice_set before i g) name piece
     go true e =
         let m = more e in
         let bytes : g.bytes ≡ held_or_none before name ++ piece = m.0 ∙ ap (λ (o : Option (List ℕ)). unwrap_or o [] ++ piece) (sym bytes_are) in

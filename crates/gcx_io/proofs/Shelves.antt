@@ -3,7 +3,7 @@ use Rattle.std.proofs.Common.{◌≡◌, ℕ, ◌<◌, Bool, true, false, List, 
 use Rattle.std.specs.Prelude.{unwrap_or}
 use Rattle.std.specs.declared.option.Option.{Option}
 use Rattle.gcx_io.specs.Held.{OpenHandle, held, held_or_none, name_at, read_at}
-use Rattle.gcx_io.specs.Files.{OpenFiles, while_whole, rests, owners, handle_count, names_of, opened, Sets, Keeps}
+use Rattle.gcx_io.specs.Files.{OpenFiles, while_whole, rests, owners, handle_count, names_of, opened, Sets, KeepsInFile}
 use Rattle.gcx_io.specs.Shelf.{Names, content_of, Adds, AddsName, Appends, LeavesOthers, Maps}
 use Rattle.gcx_io.proofs.Handles.{name_there, count_read, names_read, others_stay, opened_adds, opened_names}
 use Rattle.gcx_io.proofs.Mapped.{Told, sets_maps, keeps_append}
@@ -53,7 +53,7 @@ create_maps all old new name least sets whole =
 -- ---- write
 
 pub write_appends : (all : Bool) (old new : OpenFiles) (os : List OpenHandle) (handle : ℕ) (piece : List ℕ) → handle < length old.openings
-    → (old.whole ≡ true → Keeps new.whole old.files new.files (name_at old.openings handle) piece) → (old.whole ≡ false → new ≡ record old { openings = os })
+    → (old.whole ≡ true → KeepsInFile new.whole old.files new.files (name_at old.openings handle) piece) → (old.whole ≡ false → new ≡ record old { openings = os })
     → Appends (while_whole old.whole (Some (Told all old.files))) (while_whole new.whole (Some (Told all new.files))) (owners old handle) piece
 write_appends all old new os handle piece given keeps lost =
     keeps_append all old.whole new.whole old.files new.files (name_at old.openings handle) piece keeps (λ e. ap (λ (f : OpenFiles). f.whole) (lost e) ∙ e) (owners old handle) (name_there old.openings handle given)

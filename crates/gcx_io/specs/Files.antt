@@ -66,16 +66,16 @@ pub record Sets (before after : List File) (name bytes : List ℕ) (least : ℕ)
   pub set : after ≡ with_file (record { name = name; bytes = bytes; room = room }) before
 
 -- The piece stands behind what the name held, or it isn't kept, and then it is longer than the room.
-abbrev pub Keeps : (kept : Bool) → (before after : List File) → (name piece : List ℕ) → Type 0
-Keeps true before after name piece = (room : ℕ) × (room_of before name ≤ room + length piece)
+abbrev pub KeepsInFile : (kept : Bool) → (before after : List File) → (name piece : List ℕ) → Type 0
+KeepsInFile true before after name piece = (room : ℕ) × (room_of before name ≤ room + length piece)
     × (after ≡ with_file (record { name = name; bytes = held_or_none before name ++ piece; room = room }) before)
-Keeps false before after name piece =
+KeepsInFile false before after name piece =
     ((n : List ℕ) → held after n ≡ held before n) × (room_of before name < length piece)
 
 -- the same for the name of a handle, while all that was taken is kept
 abbrev pub KeepsPiece : (before after : OpenFiles) → (handle : ℕ) → (piece : List ℕ) → Type 0
 KeepsPiece before after handle piece = before.whole ≡ true
-    → Keeps after.whole before.files after.files (name_at before.openings handle) piece
+    → KeepsInFile after.whole before.files after.files (name_at before.openings handle) piece
 
 -- the place of the first file of a name
 pub record IsPlaceOf (name : List ℕ) (files : List File) (i : ℕ) : Type 0 where

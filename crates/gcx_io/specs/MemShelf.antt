@@ -8,7 +8,7 @@ use Rattle.gcx_io.specs.declared.shelf.Handle.{Handle}
 use Rattle.gcx_io.specs.declared.fault.AttachFault.{AttachFault}
 use Rattle.gcx_io.specs.declared.fault.AttachFault.TheVariants as attach
 use Rattle.gcx_io.specs.Held.{held, rest_at}
-use Rattle.gcx_io.specs.Tallies.{Tally, IsToFail, no_calls, passed, failed}
+use Rattle.gcx_io.specs.Tallies.{Tally, IsToFail, no_calls, passed, call_failed}
 use Rattle.gcx_io.specs.Files.{OpenFiles, held_names, rests, owners, handle_count, files_seen, Makes, TakesPiece}
 use Rattle.gcx_io.specs.Files.{no_files, after_put, after_attach, after_miss, after_read, after_call}
 use Rattle.gcx_io.specs.Shelf.{Names, AddsName, WriteExtends, OthersStay}
@@ -68,12 +68,12 @@ OtherHandlesStay handle a b = OthersStay (shelf_named a) (shelf_left a) (shelf_l
 -- the calls behind an `attach` of a name that isn't there: it is no fault where the shelf tells its names
 abbrev pub after_missing : (whole : Bool) → Tally → Tally
 after_missing true calls = passed calls
-after_missing false calls = failed calls
+after_missing false calls = call_failed calls
 
 -- the calls behind an `attach` that failed, by what the name holds
 abbrev pub after_refusal : Option (List ℕ) → (whole : Bool) → Tally → Tally
 after_refusal None whole calls = after_missing whole calls
-after_refusal (Some bytes) whole calls = failed calls
+after_refusal (Some bytes) whole calls = call_failed calls
 
 -- what an `attach` leaves
 abbrev pub AttachLeaves : List ℕ → ShelfState → ShelfState → Result Handle AttachFault → Type 0
@@ -90,7 +90,7 @@ ReadLeaves handle a b (Ok n) before after =
     × (after ≡ take n (rest_at a.kept.openings handle) ++ drop n before)
     × (b ≡ record a { kept = after_read handle (length after) n a.kept; calls = passed a.calls })
 ReadLeaves handle a b (Err e) before after = (after ≡ before)
-    × (b ≡ record a { kept = after_call handle FailedCall a.kept; calls = failed a.calls })
+    × (b ≡ record a { kept = after_call handle FailedCall a.kept; calls = call_failed a.calls })
 
 -- one call of `create` or `write` was made
 abbrev pub CountsWrite : ShelfState → ShelfState → Type 0

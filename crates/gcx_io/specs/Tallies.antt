@@ -29,12 +29,12 @@ abbrev pub passed : Tally → Tally
 passed t = record { fails = t.fails; made = next_call t; faults = t.faults }
 
 -- one call was made, and failed
-abbrev pub failed : Tally → Tally
-failed t = record { fails = t.fails; made = next_call t; faults = one_more t.faults }
+abbrev pub call_failed : Tally → Tally
+call_failed t = record { fails = t.fails; made = next_call t; faults = one_more t.faults }
 
 -- one call was made, and failed where it answered so
 abbrev pub CountsCall : {T E : Type 0} → Tally → Tally → Result T E → Type 0
-CountsCall before after result = MatchResult result (λ _. after ≡ passed before) (λ _. after ≡ failed before)
+CountsCall before after result = MatchResult result (λ _. after ≡ passed before) (λ _. after ≡ call_failed before)
 
 -- a count that is one more where this is so
 abbrev pub CountsIf : Bool → ℕ → ℕ → Type 0

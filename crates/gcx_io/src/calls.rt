@@ -1,5 +1,5 @@
 ghost use Rattle.std.specs.Prelude.{◌≡◌, ◌≤◌, ◌↔◌, IsTrue, MatchBool};
-ghost use Rattle.gcx_io.specs.Tallies.{IsToFail, no_calls, passed, failed};
+ghost use Rattle.gcx_io.specs.Tallies.{IsToFail, no_calls, passed, call_failed};
 
 use std::marker::Model;
 
@@ -40,7 +40,7 @@ impl Calls {
 
     /// Counts a call that fails whatever its number is.
     pub fn fail(&mut self)
-        ensures calls { self.new ≡ failed self.old }
+        ensures calls { self.new ≡ call_failed self.old }
         ensures later { self.old.faults ≤ self.new.faults }
     {
         self.made = self.made.saturating_add(1);
@@ -59,7 +59,7 @@ impl Calls {
     /// Counts a call, and a fault where it is to fail, and says whether it is.
     pub fn is_failing(&mut self) -> bool
         ensures which { IsTrue result ↔ IsToFail self.old }
-        ensures calls { MatchBool result (self.new ≡ failed self.old) (self.new ≡ passed self.old) }
+        ensures calls { MatchBool result (self.new ≡ call_failed self.old) (self.new ≡ passed self.old) }
         ensures later { self.old.faults ≤ self.new.faults }
     {
         self.made = self.made.saturating_add(1);

@@ -1,6 +1,6 @@
 ghost use Rattle.std.specs.Prelude.{◌≡◌, ◌<◌, ◌++◌, [], true, false, length, take, drop, min, vec_len, vec_capacity, ◌-◌, IfOk, OnOk, OnErr, MatchOption, option_copied};
 ghost use Rattle.gcx_io.specs.Held.{held, with_file, rest_at, noted_at, FileGrows, HasOneMore};
-ghost use Rattle.gcx_io.specs.Files.{opened, Sets, Keeps, KeepsPiece, IsPlaceOf, IsNewTo};
+ghost use Rattle.gcx_io.specs.Files.{opened, Sets, KeepsInFile, KeepsPiece, IsPlaceOf, IsNewTo};
 ghost use Rattle.gcx_io.specs.Files.{after_miss, after_put, after_attach, after_read, after_call};
 ghost use Rattle.gcx_io.specs.Views.{Took, Denied, Failed};
 
@@ -83,7 +83,7 @@ fn add(alloc: Global, entries: &mut Vec<Entry>, name: &Text, piece: &[u8]) -> Re
 /// Adds the piece to what the name holds, where memory is found for it.
 fn append(alloc: Global, entries: &mut Vec<Entry>, name: &Text, piece: &[u8]) -> bool
     requires { 0 < length piece.now }
-    ensures { Keeps result entries.old.items entries.new.items name.now piece.now }
+    ensures { KeepsInFile result entries.old.items entries.new.items name.now piece.now }
 {
     match find(entries, name.as_bytes()) {
         Some(i) => entries[i].append(piece),

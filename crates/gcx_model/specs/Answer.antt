@@ -11,9 +11,9 @@ use Rattle.gcx_model.specs.declared.query.QOperand.{QOperand}
 use Rattle.gcx_model.specs.declared.query.QOperand.TheVariants as operand
 use Rattle.gcx_model.specs.Tree.{Node, Root, serial_of, kind_of, Tree}
 use Rattle.gcx_model.specs.Paths.{any, matches, value}
-use Rattle.gcx_model.specs.Values.{Value, Bytes, Units, compare}
+use Rattle.gcx_model.specs.Values.{ComparedValue, Bytes, Units, compare}
 use Rattle.gcx_model.specs.Written.{start_tag, end_tag, escaped}
-use Rattle.gcx_model.specs.Query.{QueryCondTree, QueryCondTrees, Always, Exists, Compare, Not, All, Any, no_cond, more_conds, ExprTree, ExprTrees, Empty, Seq, Elem, Path, For, If, no_expr, more_exprs, exprs_of}
+use Rattle.gcx_model.specs.Query.{QueryCondTree, QueryCondTrees, QueryAlways, QueryExists, QueryCompare, QueryNot, QueryAll, QueryAny, no_query_cond, more_query_conds, ExprTree, ExprTrees, Empty, Seq, Elem, QueryPath, QueryFor, QueryIf, no_expr, more_exprs, exprs_of}
 use Rattle.gcx_model.specs.Document.{Nodes, tree_of}
 
 abbrev pub child_step : Step
@@ -52,12 +52,12 @@ start_of scope (Some x) = scope x
 abbrev pub found : PathExpr → Scope → Tree → List Node
 found path scope P = matches P (serial_of (start_of scope path.start)) path.steps
 
-abbrev pub values : QOperand → Scope → Tree → List Value
+abbrev pub values : QOperand → Scope → Tree → List ComparedValue
 values (operand.Path path) scope P = map (λ n. Bytes (value P n)) (found path scope P)
 values (operand.Str bytes) scope P = Bytes bytes ∷ []
 values (operand.Num units) scope P = Units units ∷ []
 
-abbrev pub some_pair : (Value → Value → Bool) → List Value → List Value → Bool
+abbrev pub some_pair : (ComparedValue → ComparedValue → Bool) → List ComparedValue → List ComparedValue → Bool
 some_pair r vs ws = any (λ v. any (r v) ws) vs
 
 abbrev pub is_any : {X : Type 0} → List X → Bool
@@ -66,20 +66,20 @@ is_any (x ∷ xs) = true
 
 abbrev mutual
   pub holds : QueryCondTree → Scope → Tree → Bool
-  holds Always scope P = true
-  holds (Exists path) scope P = is_any (found path scope P)
-  holds (Compare left rel right) scope P = some_pair (compare rel) (values left scope P) (values right scope P)
-  holds (Not c) scope P = not (holds c scope P)
-  holds (All cs) scope P = holds_all cs scope P
-  holds (Any cs) scope P = holds_any cs scope P
+  holds QueryAlways scope P = true
+  holds (QueryExists path) scope P = is_any (found path scope P)
+  holds (QueryCompare left rel right) scope P = some_pair (compare rel) (values left scope P) (values right scope P)
+  holds (QueryNot c) scope P = not (holds c scope P)
+  holds (QueryAll cs) scope P = holds_all cs scope P
+  holds (QueryAny cs) scope P = holds_any cs scope P
 
   pub holds_all : QueryCondTrees → Scope → Tree → Bool
-  holds_all no_cond scope P = true
-  holds_all (more_conds c cs) scope P = holds c scope P && holds_all cs scope P
+  holds_all no_query_cond scope P = true
+  holds_all (more_query_conds c cs) scope P = holds c scope P && holds_all cs scope P
 
   pub holds_any : QueryCondTrees → Scope → Tree → Bool
-  holds_any no_cond scope P = false
-  holds_any (more_conds c cs) scope P = holds c scope P || holds_any cs scope P
+  holds_any no_query_cond scope P = false
+  holds_any (more_query_conds c cs) scope P = holds c scope P || holds_any cs scope P
 
 -- the scopes of the turns of a loop, in order
 abbrev pub turns : List Clause → Scope → Tree → List Scope
@@ -95,9 +95,9 @@ abbrev mutual
   answer_expr Empty scope P = []
   answer_expr (Seq es) scope P = answer_exprs es scope P
   answer_expr (Elem name es) scope P = start_tag name ++ (answer_exprs es scope P ++ end_tag name)
-  answer_expr (Path path) scope P = flat_map (copy_of P) (found path scope P)
-  answer_expr (For clauses filter body) scope P = flat_map (λ s. cond (filtered filter s P) (answer_expr body s P) []) (turns clauses scope P)
-  answer_expr (If c this other) scope P = cond (holds c scope P) (answer_expr this scope P) (answer_expr other scope P)
+  answer_expr (QueryPath path) scope P = flat_map (copy_of P) (found path scope P)
+  answer_expr (QueryFor clauses filter body) scope P = flat_map (λ s. cond (filtered filter s P) (answer_expr body s P) []) (turns clauses scope P)
+  answer_expr (QueryIf c this other) scope P = cond (holds c scope P) (answer_expr this scope P) (answer_expr other scope P)
 
   pub answer_exprs : ExprTrees → Scope → Tree → List ℕ
   answer_exprs no_expr scope P = []

@@ -5,7 +5,7 @@ use Rattle.gcx_model.specs.declared.cond.Operand.TheVariants as operand
 use Rattle.gcx_model.specs.declared.cond.Cond.{Cond, Cond-F, fold-Cond}
 use Rattle.gcx_model.specs.declared.cond.Cond.TheOpen as cond
 use Rattle.gcx_model.specs.declared.cond.CondList.{CondList, CondList-F}
-use Rattle.gcx_model.specs.Core.{OperandTree, Path, Str, Num, CondTree, CondTrees, Always, Exists, Compare, Not, All, Any, no_cond, more_conds}
+use Rattle.gcx_model.specs.Core.{OperandTree, Path, Str, Num, CondTree, CondTrees, Always, Exists, Compare, Not, AllOf, AnyOf, no_cond, more_conds}
 
 -- the operand as a plain tree
 abbrev pub operand_tree : Operand → OperandTree
@@ -22,8 +22,8 @@ core_cond_layer cond.True = Always
 core_cond_layer (cond.Exists x steps) = Exists x.0 steps
 core_cond_layer (cond.Compare l rel r) = Compare (operand_tree l) rel (operand_tree r)
 core_cond_layer (cond.Not c) = Not (box_value c)
-core_cond_layer (cond.All cs) = All cs
-core_cond_layer (cond.Any cs) = Any cs
+core_cond_layer (cond.All cs) = AllOf cs
+core_cond_layer (cond.Any cs) = AnyOf cs
 
 abbrev pub core_conds_layer : CondList-F CondTree CondTrees → CondTrees
 core_conds_layer cs = core_conds_of cs.members.items

@@ -8,7 +8,7 @@ use Rattle.gcx_model.specs.Written.{start_tag, end_tag}
 use Rattle.gcx_model.specs.Core.{PlanTree}
 use Rattle.gcx_model.specs.Truth.{Env}
 use Rattle.gcx_model.specs.Run.{Action, Wrote, Out, idle, seq, loop, copy}
-use Rattle.gcx_model.specs.Points.{Frame, Part, later, PointAt}
+use Rattle.gcx_model.specs.Points.{Frame, CopyPart, later, PointAt}
 
 -- within the copy of a node: the child whose copy is going on in the frame above, or else the last one whose copy is over, if there is one
 pub data CopyFrame : Type 0 where
@@ -71,7 +71,7 @@ pub record CopyingAt (plan : PlanTree) (P : Tree) (k : ℕ) (inner : List CopyFr
   pub var : ℕ
   pub env : Env
   pub made : List Action
-  pub point : PointAt plan P k (Part var env (length made) ∷ fs)
+  pub point : PointAt plan P k (CopyPart var env (length made) ∷ fs)
   pub inside : IsCopyPoint P (env var) made inner
 
 -- the same for a point of both kinds: with no frames of a copy it isn't within one

@@ -15,18 +15,18 @@ mutual
     Exists : (var : ℕ) (steps : List Step) → CondTree
     Compare : (left : OperandTree) (rel : Rel) (right : OperandTree) → CondTree
     Not : (condition : CondTree) → CondTree
-    All : (members : CondTrees) → CondTree
-    Any : (members : CondTrees) → CondTree
+    AllOf : (members : CondTrees) → CondTree
+    AnyOf : (members : CondTrees) → CondTree
 
   pub data CondTrees : Type 0 where
     no_cond : CondTrees
     more_conds : (first : CondTree) (rest : CondTrees) → CondTrees
 
 -- a role is given to the matches of a variable, to the first match of a tail at each of them, or to whole subtrees
-pub data RoleKind : Type 0 where
-  Own : RoleKind
-  First : RoleKind
-  Whole : RoleKind
+pub data RoleTarget : Type 0 where
+  Own : RoleTarget
+  First : RoleTarget
+  Whole : RoleTarget
 
 -- a signOff statement: its base, the base's own role, the role, the steps from the base to the role's variable, the tail and the kind
 pub record OffTree : Type 0 where
@@ -35,7 +35,7 @@ pub record OffTree : Type 0 where
   pub role : ℕ
   pub rel : List Step
   pub tail : List Step
-  pub kind : RoleKind
+  pub kind : RoleTarget
 
 mutual
   -- text that is written; a copy of a variable's node; a loop of a variable over one step from another one; a branch; a statement
@@ -44,7 +44,7 @@ mutual
     Copy : (var : ℕ) → ItemTree
     For : (var from : ℕ) (step : Step) (body : BodyTree) → ItemTree
     If : (condition : CondTree) (this other : BodyTree) → ItemTree
-    Off : (off : OffTree) → ItemTree
+    SignOff : (off : OffTree) → ItemTree
 
   pub data BodyTree : Type 0 where
     Nil : BodyTree
@@ -59,7 +59,7 @@ pub record VarRowTree : Type 0 where
 pub record RoleRowTree : Type 0 where
   pub var : ℕ
   pub tail : List Step
-  pub kind : RoleKind
+  pub kind : RoleTarget
 
 -- a plan: the core with statements in it; a row for each variable from 1; for each variable from 1, whether it is straight, and its fsa; the roles by their numbers
 pub record PlanTree : Type 0 where

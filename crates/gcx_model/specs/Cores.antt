@@ -1,7 +1,7 @@
 -- Which cores the laws are for (this project's).
 use Rattle.std.specs.Prelude.{◌≡◌, ℕ, Bool, true, false, List, [], ◌∷◌, length}
 use Rattle.gcx_model.specs.Members.{In, count}
-use Rattle.gcx_model.specs.Core.{OperandTree, Path, Str, Num, CondTree, CondTrees, Always, Exists, Compare, Not, All, Any, no_cond, more_conds, ItemTree, Write, Copy, For, If, Off, BodyTree, Nil, Then}
+use Rattle.gcx_model.specs.Core.{OperandTree, Path, Str, Num, CondTree, CondTrees, Always, Exists, Compare, Not, AllOf, AnyOf, no_cond, more_conds, ItemTree, Write, Copy, For, If, SignOff, BodyTree, Nil, Then}
 use Rattle.gcx_model.specs.Variables.{vars}
 
 -- each variable that is used is one of these
@@ -16,8 +16,8 @@ abbrev mutual
   cond_in L (Exists x steps) = In x L
   cond_in L (Compare l rel r) = operand_in L l × operand_in L r
   cond_in L (Not c) = cond_in L c
-  cond_in L (All cs) = conds_in L cs
-  cond_in L (Any cs) = conds_in L cs
+  cond_in L (AllOf cs) = conds_in L cs
+  cond_in L (AnyOf cs) = conds_in L cs
 
   pub conds_in : List ℕ → CondTrees → Type 0
   conds_in L no_cond = Unit {0}
@@ -31,7 +31,7 @@ abbrev mutual
   ItemIn b L (Copy x) = In x L
   ItemIn b L (For x y s d) = (b ≡ true) × In y L × BodyIn b (x ∷ L) d
   ItemIn b L (If c d e) = cond_in L c × BodyIn false L d × BodyIn false L e
-  ItemIn b L (Off o) = ⊥
+  ItemIn b L (SignOff o) = ⊥
 
   pub BodyIn : (b : Bool) (L : List ℕ) → BodyTree → Type 0
   BodyIn b L Nil = Unit {0}

@@ -3,7 +3,7 @@ use Rattle.std.specs.Prelude.{ℕ, List, [], ◌∷◌, ◌++◌, map, length, f
 use Rattle.std.specs.Fmt.{decimal}
 use Rattle.gcx_base.specs.declared.kind.Kind.{Kind}
 use Rattle.gcx_base.specs.declared.kind.Kind.TheVariants.{Document, Element, Text}
-use Rattle.gcx_model.specs.Tree.{Node, Root, Under, serial_of, kind_of, Tree, Token, Start, Chars, End, opening, grow}
+use Rattle.gcx_model.specs.Tree.{Node, Root, Under, serial_of, kind_of, Tree, TreeToken, Start, Chars, End, opening, grow}
 use Rattle.gcx_model.specs.Query.{ExprTree}
 use Rattle.gcx_model.specs.Core.{PlanTree}
 use Rattle.gcx_model.specs.Run.{Action, Wrote, Offed}
@@ -49,22 +49,22 @@ abbrev pub opened_line : PlanTree → Tree → Node → Line
 opened_line plan P n = Opened (serial_of n) (line_kind (kind_of n)) (roles_given plan P n)
 
 -- the line of the token that made Q of P, and the node that it opened
-abbrev pub feed_line : PlanTree → Token → (at : Option Node) → (P Q : Tree) → List Line
+abbrev pub feed_line : PlanTree → TreeToken → (at : Option Node) → (P Q : Tree) → List Line
 feed_line plan t None P Q = []
 feed_line plan (Start name) (Some p) P Q = opened_line plan Q (Under p (length P.nodes) (Element name)) ∷ []
 feed_line plan (Chars b) (Some p) P Q = opened_line plan Q (Under p (length P.nodes) (Text b)) ∷ []
 feed_line plan End (Some p) P Q = Closed (serial_of p) ∷ []
 
 -- the token fed to P, behind the actions A, and then every possible action
-abbrev pub feed_lines : PlanTree → Token → (P Q : Tree) → List Action → List Line
+abbrev pub feed_lines : PlanTree → TreeToken → (P Q : Tree) → List Action → List Line
 feed_lines plan t P Q A = feed_line plan t P.at P Q ++ (left (held plan P A ++ drop (length P.nodes) Q.nodes) (held plan Q A) ++ act_lines plan Q A (drop (length A) (actions plan Q)))
 
-abbrev pub demand : PlanTree → List Token → Tree → List Line
+abbrev pub demand : PlanTree → List TreeToken → Tree → List Line
 demand plan [] P = []
 demand plan (t ∷ ts) P = feed_lines plan t P (grow t P) (actions plan P) ++ demand plan ts (grow t P)
 
 -- the lines of the demand run over the tokens
-abbrev pub trace_lines : PlanTree → List Token → List Line
+abbrev pub trace_lines : PlanTree → List TreeToken → List Line
 trace_lines plan ts = opened_line plan opening Root ∷ (act_lines plan opening [] (actions plan opening) ++ demand plan ts opening)
 
 abbrev pub kind_text : LineKind → List ℕ
@@ -88,12 +88,12 @@ abbrev pub text_of_lines : List Line → List ℕ
 text_of_lines lines = flat_map (λ l. line_text l ++ 10 ∷ []) lines
 
 -- the greatest number of held nodes just after a token, each fed with every action of the tree before it taken
-abbrev pub peak_from : PlanTree → List Token → Tree → ℕ
+abbrev pub peak_from : PlanTree → List TreeToken → Tree → ℕ
 peak_from plan [] P = 0
 peak_from plan (t ∷ ts) P = max (length (held plan (grow t P) (actions plan P))) (peak_from plan ts (grow t P))
 
 -- in the opening state too
-abbrev pub peak_of : PlanTree → List Token → ℕ
+abbrev pub peak_of : PlanTree → List TreeToken → ℕ
 peak_of plan ts = max (length (held plan opening [])) (peak_from plan ts opening)
 
 -- TraceText(q, P)

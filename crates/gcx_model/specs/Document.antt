@@ -3,7 +3,7 @@ use Rattle.std.specs.Prelude.{ℕ, ◌≡◌, Bool, true, false, List, [], ◌�
 use Rattle.std.specs.List.{list_all}
 use Rattle.gcx_base.specs.Characters.{is_white}
 use Rattle.gcx_model.specs.Attributes.{IsNameBytes}
-use Rattle.gcx_model.specs.Tree.{Token, Start, Chars, End, Tree, opening, grow_all}
+use Rattle.gcx_model.specs.Tree.{TreeToken, Start, Chars, End, Tree, opening, grow_all}
 
 -- A list of nodes, built at its end: none; or nodes and behind them an element with its children, or a text.
 pub data Nodes : Type 0 where
@@ -36,7 +36,7 @@ IsDocument (element (text b t) name children) = ⊥
 IsDocument (text before bytes) = ⊥
 
 -- the tokens of nodes, in document order
-abbrev pub tokens : Nodes → List Token
+abbrev pub tokens : Nodes → List TreeToken
 tokens none = []
 tokens (element before name children) = tokens before ++ (Start name ∷ (tokens children ++ (End ∷ [])))
 tokens (text before bytes) = tokens before ++ (Chars bytes ∷ [])

@@ -5,7 +5,7 @@ use Rattle.gcx_base.specs.declared.steps.Axis.TheVariants.{Child, Descendant}
 use Rattle.gcx_base.specs.declared.steps.Test.{Test}
 use Rattle.gcx_base.specs.declared.steps.Test.TheVariants.{Named, AnyElement, AnyText, AnyNode}
 use Rattle.gcx_base.specs.declared.steps.Step.{Step}
-use Rattle.gcx_model.specs.Core.{RoleKind, Own, First, Whole, OffTree}
+use Rattle.gcx_model.specs.Core.{RoleTarget, Own, First, Whole, OffTree}
 
 abbrev pub axis_eq : Axis → Axis → Bool
 axis_eq Child Child = true
@@ -24,7 +24,7 @@ steps_eq [] [] = true
 steps_eq (s ∷ ss) (t ∷ ts) = (axis_eq s.axis t.axis && test_eq s.test t.test) && steps_eq ss ts
 steps_eq ss ts = false
 
-abbrev pub kind_eq : RoleKind → RoleKind → Bool
+abbrev pub kind_eq : RoleTarget → RoleTarget → Bool
 kind_eq Own Own = true
 kind_eq First First = true
 kind_eq Whole Whole = true

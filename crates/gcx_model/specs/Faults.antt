@@ -10,7 +10,7 @@ use Rattle.gcx_model.specs.Attributes.{Attributes}
 use Rattle.gcx_model.specs.Grammar.{Content, has_element, may_open, SpellsDocument, Viable}
 use Rattle.gcx_model.specs.Fronts.{Frames, inside, Piece, less, tag, spaced, OpensFrames, depth, naming, piece_run}
 use Rattle.gcx_model.specs.declared.fault.DocFault.{DocFault}
-use Rattle.gcx_model.specs.declared.fault.DocFault.TheVariants.{Utf8, Syntax, Truncated, Depth, NameLong, TextLong, TooLong}
+use Rattle.gcx_model.specs.declared.fault.DocFault.TheVariants as doc_faults
 
 -- how many bytes characters take
 abbrev pub size : List ℕ → ℕ
@@ -18,11 +18,11 @@ size [] = 0
 size (c ∷ cs) = len_utf8 c + size cs
 
 -- a fault that a character makes, with its offset in bytes
-pub data Refusal : Type 0 where
-  AtSyntax : ℕ → Refusal
-  AtDepth : ℕ → Refusal
-  AtName : ℕ → Refusal
-  AtText : ℕ → Refusal
+pub data DocumentRefusal : Type 0 where
+  AtSyntax : ℕ → DocumentRefusal
+  AtDepth : ℕ → DocumentRefusal
+  AtName : ℕ → DocumentRefusal
+  AtText : ℕ → DocumentRefusal
 
 -- c is a front whose run is such
 pub record HasRun (c : List ℕ) (P : List ℕ → Type 0) : Type 0 where
@@ -63,7 +63,7 @@ abbrev pub IsDeep : Limits → (front : List ℕ) → (c : ℕ) → (k : ℕ) �
 IsDeep lim front c k = (is_start_char c ≡ true) × ((IsFullTag lim front × (k + 1 ≡ size front)) ⊎ (IsFullAttribute lim front × (k ≡ size front)))
 
 -- With the character c behind the front this fault comes.
-abbrev pub Comes : Limits → (front : List ℕ) → (c : ℕ) → Refusal → Type 0
+abbrev pub Comes : Limits → (front : List ℕ) → (c : ℕ) → DocumentRefusal → Type 0
 Comes lim front c (AtSyntax k) = (k ≡ size front) × (Viable (front ++ c ∷ []) → ⊥)
 Comes lim front c (AtDepth k) = IsDeep lim front c k
 Comes lim front c (AtName k) = (k ≡ size front) × HasName (front ++ c ∷ []) (λ n. lim.name < length (encodes n)) × ((j : ℕ) → IsDeep lim front c j → ⊥)
@@ -71,10 +71,10 @@ Comes lim front c (AtText k) = (k ≡ size front) × HasRun (front ++ c ∷ []) 
 
 -- No fault comes in the characters.
 abbrev pub Clean : Limits → List ℕ → Type 0
-Clean lim cs = (front : List ℕ) (c : ℕ) (rest : List ℕ) (f : Refusal) → cs ≡ front ++ (c ∷ rest) → Comes lim front c f → ⊥
+Clean lim cs = (front : List ℕ) (c : ℕ) (rest : List ℕ) (f : DocumentRefusal) → cs ≡ front ++ (c ∷ rest) → Comes lim front c f → ⊥
 
 -- The fault f comes first in the characters.
-pub record ComesFirst (lim : Limits) (cs : List ℕ) (f : Refusal) : Type 0 where
+pub record ComesFirst (lim : Limits) (cs : List ℕ) (f : DocumentRefusal) : Type 0 where
   pub front : List ℕ
   pub at : ℕ
   pub rest : List ℕ
@@ -82,11 +82,11 @@ pub record ComesFirst (lim : Limits) (cs : List ℕ) (f : Refusal) : Type 0 wher
   pub clean : Clean lim front
   pub comes : Comes lim front at f
 
-abbrev pub fault_of : Refusal → DocFault
-fault_of (AtSyntax k) = Syntax k
-fault_of (AtDepth k) = Depth k
-fault_of (AtName k) = NameLong k
-fault_of (AtText k) = TextLong k
+abbrev pub fault_of : DocumentRefusal → DocFault
+fault_of (AtSyntax k) = doc_faults.Syntax k
+fault_of (AtDepth k) = doc_faults.Depth k
+fault_of (AtName k) = doc_faults.NameLong k
+fault_of (AtText k) = doc_faults.TextLong k
 
 -- b is these characters, and a proper front of one more
 pub record Decodes (b cs tail : List ℕ) : Type 0 where
@@ -104,13 +104,13 @@ pub record IsBad (b cs : List ℕ) : Type 0 where
 -- The fault of bytes that are no more than may be, and whose end is the input's or isn't.
 pub data FaultWithin (lim : Limits) (b : List ℕ) (ended : Bool) (o : Option DocFault) : Type 0 where
   -- a character makes it
-  by_character : (cs rest : List ℕ) (f : Refusal) → scalars cs ≡ true → b ≡ encodes cs ++ rest → ComesFirst lim cs f → o ≡ Some (fault_of f) → FaultWithin lim b ended o
+  by_character : (cs rest : List ℕ) (f : DocumentRefusal) → scalars cs ≡ true → b ≡ encodes cs ++ rest → ComesFirst lim cs f → o ≡ Some (fault_of f) → FaultWithin lim b ended o
   -- a sequence that isn't UTF-8
-  by_sequence : (cs : List ℕ) → IsBad b cs → Clean lim cs → o ≡ Some (Utf8 (size cs)) → FaultWithin lim b ended o
+  by_sequence : (cs : List ℕ) → IsBad b cs → Clean lim cs → o ≡ Some (doc_faults.Utf8 (size cs)) → FaultWithin lim b ended o
   -- the input ends inside a character
-  by_cut : (cs tail : List ℕ) → Decodes b cs tail → Clean lim cs → (tail ≡ [] → ⊥) → ended ≡ true → o ≡ Some (Utf8 (size cs)) → FaultWithin lim b ended o
+  by_cut : (cs tail : List ℕ) → Decodes b cs tail → Clean lim cs → (tail ≡ [] → ⊥) → ended ≡ true → o ≡ Some (doc_faults.Utf8 (size cs)) → FaultWithin lim b ended o
   -- the input ends too soon
-  by_end : (cs : List ℕ) → Decodes b cs [] → Clean lim cs → ((d : Nodes) → SpellsDocument cs d → ⊥) → ended ≡ true → o ≡ Some (Truncated (size cs)) → FaultWithin lim b ended o
+  by_end : (cs : List ℕ) → Decodes b cs [] → Clean lim cs → ((d : Nodes) → SpellsDocument cs d → ⊥) → ended ≡ true → o ≡ Some (doc_faults.Truncated (size cs)) → FaultWithin lim b ended o
   -- none so far
   none_yet : (cs tail : List ℕ) → Decodes b cs tail → Clean lim cs → ended ≡ false → o ≡ None → FaultWithin lim b ended o
   -- a whole document
@@ -120,4 +120,4 @@ pub data FaultWithin (lim : Limits) (b : List ℕ) (ended : Bool) (o : Option Do
 pub data FaultIs (lim : Limits) (b : List ℕ) (ended : Bool) (o : Option DocFault) : Type 0 where
   within_limit : length b ≤ lim.bytes → FaultWithin lim b ended o → FaultIs lim b ended o
   before_limit : (f : DocFault) → lim.bytes < length b → FaultWithin lim (take lim.bytes b) false (Some f) → o ≡ Some f → FaultIs lim b ended o
-  past_limit : lim.bytes < length b → FaultWithin lim (take lim.bytes b) false None → o ≡ Some (TooLong lim.bytes) → FaultIs lim b ended o
+  past_limit : lim.bytes < length b → FaultWithin lim (take lim.bytes b) false None → o ≡ Some (doc_faults.TooLong lim.bytes) → FaultIs lim b ended o

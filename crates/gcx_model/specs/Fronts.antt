@@ -5,7 +5,7 @@ use Rattle.std.specs.List.{list_all}
 use lib.Utf8.{encodes}
 use Rattle.gcx_base.specs.Characters.{is_white, is_start_char}
 use Rattle.gcx_model.specs.Document.{is_blank, tokens}
-use Rattle.gcx_model.specs.Tree.{Token, Start, Chars}
+use Rattle.gcx_model.specs.Tree.{TreeToken, Start, Chars}
 use Rattle.gcx_model.specs.References.{BegunReference, begun_spelling, IsBegun}
 use Rattle.gcx_model.specs.Attributes.{is_name, is_blank_text, is_gap, is_quote, is_fresh, AttributeValue, Head, Attributes, no_attribute, attribute, value_spelling, head_spelling, attributes_spelling, attribute_names, IsValue, IsHead, IsAttributes, value_run}
 use Rattle.gcx_model.specs.Markup.{CommentText, comment_spelling, comment_start, IsCommentText, CDSect, cdata_word, cdata_start, cdsect_spelling, IsCDSect, settled, InstructionData, data_spelling, IsInstructionData, Declaration, doc_word, doc_start, is_literal_char, declaration_spelling, IsDeclaration}
@@ -23,7 +23,7 @@ pub data Part : Type 0 where
   part_name : (gap : List ℕ) (read : List ℕ) → Part
   name_spaced : (gap : List ℕ) (name : List ℕ) (sp : List ℕ) → Part
   equals : (gap : List ℕ) (name : List ℕ) (sp : List ℕ) (sp2 : List ℕ) → Part
-  value : (head : Head) (value : AttributeValue) → Part
+  value_part : (head : Head) (value : AttributeValue) → Part
   value_amp : (head : Head) (value : AttributeValue) (begun : BegunReference) → Part
 
 -- a begun tag, comment, processing instruction, declaration, section or reference; of a word that is known the characters read and those to come
@@ -62,7 +62,7 @@ part_spelling (spaced g) = g
 part_spelling (part_name g m) = g ++ m
 part_spelling (name_spaced g m sp) = g ++ (m ++ sp)
 part_spelling (equals g m sp sp2) = g ++ (m ++ (sp ++ (61 ∷ sp2)))
-part_spelling (value h v) = head_spelling h ++ value_spelling v
+part_spelling (value_part h v) = head_spelling h ++ value_spelling v
 part_spelling (value_amp h v r) = head_spelling h ++ (value_spelling v ++ begun_spelling r)
 
 abbrev pub piece_spelling : Piece → List ℕ
@@ -131,7 +131,7 @@ IsPart ats (spaced g) = is_gap g ≡ true
 IsPart ats (part_name g m) = (is_gap g ≡ true) × (is_name m ≡ true)
 IsPart ats (name_spaced g m sp) = (is_gap g ≡ true) × (is_name m ≡ true) × (is_fresh (encodes m) (attribute_names ats) ≡ true) × (is_gap sp ≡ true)
 IsPart ats (equals g m sp sp2) = (is_gap g ≡ true) × (is_name m ≡ true) × (is_fresh (encodes m) (attribute_names ats) ≡ true) × (is_blank_text sp ≡ true) × (is_blank_text sp2 ≡ true)
-IsPart ats (value h v) = IsHead (attribute_names ats) h × IsValue h.quote v
+IsPart ats (value_part h v) = IsHead (attribute_names ats) h × IsValue h.quote v
 IsPart ats (value_amp h v r) = IsHead (attribute_names ats) h × IsValue h.quote v × IsBegun r
 
 abbrev pub IsPiece : Frames → Content → Piece → Type 0
@@ -169,7 +169,7 @@ pub record OpensFrames (c : List ℕ) (fs : Frames) (x : Content) (p : Piece) : 
 
 -- the bytes of the run that is being read: of an attribute's value, or of the content
 abbrev pub part_run : Part → List ℕ
-part_run (value h v) = value_run v
+part_run (value_part h v) = value_run v
 part_run (value_amp h v r) = value_run v
 part_run other = []
 
@@ -190,14 +190,14 @@ naming (tag n ats p) = part_naming p
 naming other = []
 
 -- a run as a token, unless it is empty or only white space
-abbrev pub text_of : List ℕ → List Token
+abbrev pub text_of : List ℕ → List TreeToken
 text_of r = if is_blank r then [] else (Chars r ∷ [])
 
 -- the tokens of the open elements, each with the content before it
-abbrev pub frames_tokens : Frames → List Token
+abbrev pub frames_tokens : Frames → List TreeToken
 frames_tokens bottom = []
 frames_tokens (frame fs x n ats sp) = (frames_tokens fs ++ tokens (nodes x)) ++ (text_of (text_run x) ++ (Start (encodes n) ∷ tokens (attribute_nodes ats)))
 
 -- the tokens of the whole tags of a front
-abbrev pub seen_tokens : Frames → Content → List Token
+abbrev pub seen_tokens : Frames → Content → List TreeToken
 seen_tokens fs x = frames_tokens fs ++ tokens (nodes x)

@@ -5,7 +5,7 @@ use lib.Utf8.{encodes}
 use Rattle.gcx_base.specs.declared.kind.Kind.{Kind}
 use Rattle.gcx_base.specs.declared.kind.Kind.TheVariants.{Document, Element, Text}
 use Rattle.gcx_model.specs.Document.{is_blank}
-use Rattle.gcx_model.specs.Tree.{Node, Root, Under, serial_of, above, Tree, Token, Start, Chars, End, grow}
+use Rattle.gcx_model.specs.Tree.{Node, Root, Under, serial_of, above, Tree, TreeToken, Start, Chars, End, grow}
 use Rattle.gcx_base.specs.Name.{is_name, IsNameBytes}
 
 -- behind the document node there is a root element
@@ -46,7 +46,7 @@ pub data Leads (P : Tree) : Tree → Type 0 where
 abbrev pub is_name_bytes : List ℕ → Bool
 is_name_bytes b = is_name (chars b) && bytes_eq (encodes (chars b)) b
 
-abbrev pub may_come_at : Option Node → Token → List Node → Bool
+abbrev pub may_come_at : Option Node → TreeToken → List Node → Bool
 may_come_at None t ns = false
 may_come_at (Some Root) (Start name) ns = is_name_bytes name && not (has_root ns)
 may_come_at (Some Root) (Chars b) ns = false
@@ -55,11 +55,11 @@ may_come_at (Some (Under p s k)) (Start name) ns = is_name_bytes name
 may_come_at (Some (Under p s k)) (Chars b) ns = not (is_blank b) && not (ends_in_text (Under p s k) ns)
 may_come_at (Some (Under p s k)) End ns = true
 
-abbrev pub may_come : Token → Tree → Bool
+abbrev pub may_come : TreeToken → Tree → Bool
 may_come t P = may_come_at P.at t P.nodes
 
 -- each may come behind those before it
-abbrev pub may_all : List Token → Tree → Bool
+abbrev pub may_all : List TreeToken → Tree → Bool
 may_all [] P = true
 may_all (t ∷ ts) P = may_come t P && may_all ts (grow t P)
 
@@ -70,7 +70,7 @@ abbrev pub level : Node → ℕ
 level Root = 0
 level (Under p s k) = suc (level p)
 
-abbrev pub ends : ℕ → List Token
+abbrev pub ends : ℕ → List TreeToken
 ends n = replicate n End
 
 -- the innermost open node just behind the start of this one
@@ -80,21 +80,21 @@ open_at (Under p s Document) = Under p s Document
 open_at (Under p s (Element name)) = Under p s (Element name)
 open_at (Under p s (Text b)) = p
 
-abbrev pub token_of : Kind → List Token
+abbrev pub token_of : Kind → List TreeToken
 token_of Document = []
 token_of (Element name) = Start name ∷ []
 token_of (Text b) = Chars b ∷ []
 
 -- the tokens behind the node that was opened last, up to the next ones
-abbrev pub tokens_behind : (last : Node) → List Node → Option Node → List Token
+abbrev pub tokens_behind : (last : Node) → List Node → Option Node → List TreeToken
 tokens_behind last [] None = ends (suc (level (open_at last)))
 tokens_behind last [] (Some p) = ends (level (open_at last) - level p)
 tokens_behind last (Root ∷ ns) at = tokens_behind Root ns at
 tokens_behind last (Under p s k ∷ ns) at = ends (level (open_at last) - level p) ++ (token_of k ++ tokens_behind (Under p s k) ns at)
 
-abbrev pub tokens_from : List Node → Option Node → List Token
+abbrev pub tokens_from : List Node → Option Node → List TreeToken
 tokens_from [] at = []
 tokens_from (r ∷ ns) at = tokens_behind r ns at
 
-abbrev pub tokens_of : Tree → List Token
+abbrev pub tokens_of : Tree → List TreeToken
 tokens_of P = tokens_from P.nodes P.at

@@ -4,7 +4,7 @@ use Rattle.gcx_base.specs.declared.steps.Step.{Step}
 use Rattle.gcx_model.specs.Tree.{Node, serial_of, above, within, Tree, is_open_at}
 use Rattle.gcx_model.specs.Paths.{any, all, head, hits, matches, first}
 use Rattle.gcx_model.specs.Members.{count}
-use Rattle.gcx_model.specs.Core.{RoleKind, Own, First, Whole, OffTree, VarRowTree, RoleRowTree, PlanTree}
+use Rattle.gcx_model.specs.Core.{RoleTarget, Own, First, Whole, OffTree, VarRowTree, RoleRowTree, PlanTree}
 use Rattle.gcx_model.specs.Run.{Action, Wrote, Offed}
 use Rattle.gcx_model.specs.Placed.{offs_in, of_role, row_at}
 use Rattle.gcx_model.specs.Equal.{off_eq}
@@ -27,7 +27,7 @@ is_node n None = false
 is_node n (Some m) = serial_of m == n
 
 -- from the node m, by these steps, this tail and this kind, the role reaches n
-abbrev pub gives : Tree → (m : ℕ) → (rel tail : List Step) → RoleKind → Node → Bool
+abbrev pub gives : Tree → (m : ℕ) → (rel tail : List Step) → RoleTarget → Node → Bool
 gives P m rel tail Own n = hits m rel n
 gives P m rel tail First n = any (λ j. is_node (serial_of n) (first P (serial_of j) tail)) (matches P m rel)
 gives P m rel tail Whole n = any (hits m (rel ++ tail)) (above n)

@@ -6,11 +6,11 @@ use Rattle.gcx_model.specs.declared.item.Off.{Off}
 use Rattle.gcx_model.specs.declared.item.Item.{Item, Item-F, fold-Item}
 use Rattle.gcx_model.specs.declared.item.Item.TheOpen as item
 use Rattle.gcx_model.specs.declared.item.Body.{Body, Body-F}
-use Rattle.gcx_model.specs.Core.{RoleKind, Own, First, Whole, OffTree, ItemTree, BodyTree, Nil, Then}
+use Rattle.gcx_model.specs.Core.{RoleTarget, Own, First, Whole, OffTree, ItemTree, BodyTree, Nil, Then}
 use Rattle.gcx_model.specs.Core as tree
 use Rattle.gcx_model.specs.CondView.{core_cond_tree}
 
-abbrev pub role_kind : CodeKind → RoleKind
+abbrev pub role_kind : CodeKind → RoleTarget
 role_kind kind.Own = Own
 role_kind kind.First = First
 role_kind kind.Whole = Whole
@@ -28,7 +28,7 @@ item_layer (item.Write b) = tree.Write b
 item_layer (item.Copy x) = tree.Copy x.0
 item_layer (item.For x y step d) = tree.For x.0 y.0 step d
 item_layer (item.If c a b) = tree.If (core_cond_tree c) a b
-item_layer (item.Off o) = tree.Off (off_tree o)
+item_layer (item.Off o) = tree.SignOff (off_tree o)
 
 abbrev pub body_layer : Body-F ItemTree BodyTree → BodyTree
 body_layer d = body_of d.members.items

@@ -3,11 +3,11 @@ use Rattle.std.specs.Prelude.{◌≡◌, ℕ, true, List, [], ◌∷◌, ◌++�
 use Rattle.gcx_model.specs.Tree.{Node, Root, serial_of, within, Tree}
 use Rattle.gcx_model.specs.Paths.{matches, first}
 use Rattle.gcx_model.specs.Members.{In}
-use Rattle.gcx_model.specs.Core.{OperandTree, Path, Str, Num, CondTree, CondTrees, Always, Exists, Compare, Not, All, Any, no_cond, more_conds, ItemTree, Write, Copy, For, If, Off, BodyTree, Nil, Then, RoleRowTree}
+use Rattle.gcx_model.specs.Core.{OperandTree, Path, Str, Num, CondTree, CondTrees, Always, Exists, Compare, Not, AllOf, AnyOf, no_cond, more_conds, ItemTree, Write, Copy, For, If, SignOff, BodyTree, Nil, Then, RoleRowTree}
 use Rattle.gcx_model.specs.Truth.{Env}
 use Rattle.gcx_model.specs.Run.{idle}
 use Rattle.gcx_model.specs.Roles.{cond_rows}
-use Rattle.gcx_model.specs.Points.{Frame, Rest, Round, Part, later, to_come}
+use Rattle.gcx_model.specs.Points.{Frame, Rest, LoopRound, CopyPart, later, to_come}
 
 -- a compared operand needs each of its matches with the whole subtree
 abbrev pub Operand_needs : Tree → Env → OperandTree → Node → Type 0
@@ -22,8 +22,8 @@ abbrev mutual
   Cond_needs P env (Exists x steps) m = first P (serial_of (env x)) steps ≡ Some m
   Cond_needs P env (Compare l rel r) m = Operand_needs P env l m ⊎ Operand_needs P env r m
   Cond_needs P env (Not c) m = Cond_needs P env c m
-  Cond_needs P env (All cs) m = Conds_need P env cs m
-  Cond_needs P env (Any cs) m = Conds_need P env cs m
+  Cond_needs P env (AllOf cs) m = Conds_need P env cs m
+  Cond_needs P env (AnyOf cs) m = Conds_need P env cs m
 
   pub Conds_need : Tree → Env → CondTrees → Node → Type 0
   Conds_need P env no_cond m = ⊥
@@ -35,7 +35,7 @@ Item_needs P env (Write s) m = ⊥
 Item_needs P env (Copy x) m = within (serial_of (env x)) m ≡ true
 Item_needs P env (For x y s d) m = (env y ≡ m) ⊎ In m (matches P (serial_of (env y)) (s ∷ []))
 Item_needs P env (If c a b) m = Cond_needs P env c m ⊎ ((r : RoleRowTree) × In r (cond_rows c) × (env r.var ≡ m))
-Item_needs P env (Off o) m = env o.base ≡ m
+Item_needs P env (SignOff o) m = env o.base ≡ m
 
 abbrev pub Body_needs : Tree → Env → BodyTree → Node → Type 0
 Body_needs P env Nil m = ⊥
@@ -44,8 +44,8 @@ Body_needs P env (Then i d) m = Item_needs P env i m
 -- What a frame needs, under those above it: of a body what the item with which it goes on needs; of a round the present match, unless its body is done and its last action is taken, the later ones, and the parent's node; of a copy the whole subtree.
 abbrev pub Frame_needs : Tree → (top : List Frame) → Frame → Node → Type 0
 Frame_needs P top (Rest d env) m = Body_needs P env d m
-Frame_needs P top (Round x y s e env n) m = (((to_come P top ≡ idle true → ⊥) × (n ≡ m)) ⊎ In m (later n (matches P (serial_of (env y)) (s ∷ [])))) ⊎ (env y ≡ m)
-Frame_needs P top (Part x env k) m = within (serial_of (env x)) m ≡ true
+Frame_needs P top (LoopRound x y s e env n) m = (((to_come P top ≡ idle true → ⊥) × (n ≡ m)) ⊎ In m (later n (matches P (serial_of (env y)) (s ∷ [])))) ⊎ (env y ≡ m)
+Frame_needs P top (CopyPart x env k) m = within (serial_of (env x)) m ≡ true
 
 -- what a point needs: that of each frame, and the document node, to which variable 0 is bound, until all is done and the last action is taken
 abbrev pub Needs : Tree → (top fs : List Frame) → Node → Type 0
@@ -58,4 +58,4 @@ Uses (Write s) x = ⊥
 Uses (Copy y) x = y ≡ x
 Uses (For z y s d) x = y ≡ x
 Uses (If c a b) x = (r : RoleRowTree) × In r (cond_rows c) × (r.var ≡ x)
-Uses (Off o) x = o.base ≡ x
+Uses (SignOff o) x = o.base ≡ x

@@ -8,7 +8,7 @@ use Rattle.gcx_model.specs.Tree.{Tree}
 use Rattle.gcx_model.specs.Written.{start_tag, end_tag}
 use Rattle.gcx_model.specs.Query as query
 use Rattle.gcx_model.specs.Query.{ExprTree, ExprTrees, exprs_of}
-use Rattle.gcx_model.specs.Core.{OperandTree, Path, Str, Num, CondTree, CondTrees, Always, Exists, Compare, Not, All, Any, no_cond, more_conds, ItemTree, Write, Copy, For, If, Off, BodyTree, Nil, Then}
+use Rattle.gcx_model.specs.Core.{OperandTree, Path, Str, Num, CondTree, CondTrees, Always, Exists, Compare, Not, AllOf, AnyOf, no_cond, more_conds, ItemTree, Write, Copy, For, If, SignOff, BodyTree, Nil, Then}
 use Rattle.gcx_model.specs.Run.{bytes_written}
 
 -- one body behind another
@@ -45,16 +45,16 @@ normal_operand (operand.Num units) names = Num units
 
 abbrev mutual
   pub normal_cond : query.QueryCondTree → Names → CondTree
-  normal_cond query.Always names = Always
-  normal_cond (query.Exists path) names = normal_exists (start_var names path.start) path.steps
-  normal_cond (query.Compare left rel right) names = Compare (normal_operand left names) rel (normal_operand right names)
-  normal_cond (query.Not c) names = Not (normal_cond c names)
-  normal_cond (query.All cs) names = All (normal_conds cs names)
-  normal_cond (query.Any cs) names = Any (normal_conds cs names)
+  normal_cond query.QueryAlways names = Always
+  normal_cond (query.QueryExists path) names = normal_exists (start_var names path.start) path.steps
+  normal_cond (query.QueryCompare left rel right) names = Compare (normal_operand left names) rel (normal_operand right names)
+  normal_cond (query.QueryNot c) names = Not (normal_cond c names)
+  normal_cond (query.QueryAll cs) names = AllOf (normal_conds cs names)
+  normal_cond (query.QueryAny cs) names = AnyOf (normal_conds cs names)
 
   pub normal_conds : query.QueryCondTrees → Names → CondTrees
-  normal_conds query.no_cond names = no_cond
-  normal_conds (query.more_conds c cs) names = more_conds (normal_cond c names) (normal_conds cs names)
+  normal_conds query.no_query_cond names = no_cond
+  normal_conds (query.more_query_conds c cs) names = more_conds (normal_cond c names) (normal_conds cs names)
 
 -- An If, moved inside the loops of its branches
 
@@ -65,7 +65,7 @@ has_loop (Then (Write s) d) = has_loop d
 has_loop (Then (Copy x) d) = has_loop d
 has_loop (Then (For x y s e) d) = true
 has_loop (Then (If c a b) d) = has_loop d
-has_loop (Then (Off o) d) = has_loop d
+has_loop (Then (SignOff o) d) = has_loop d
 
 -- an If of which one branch is empty: `first` tells whether the body is the first one
 abbrev pub half : CondTree → (first : Bool) → BodyTree → ItemTree
@@ -89,7 +89,7 @@ pieces (Then (Write s) d) = begin (Write s) (pieces d)
 pieces (Then (Copy x) d) = begin (Copy x) (pieces d)
 pieces (Then (For x y s e) d) = Loop (For x y s e) ∷ pieces d
 pieces (Then (If k a b) d) = begin (If k a b) (pieces d)
-pieces (Then (Off o) d) = begin (Off o) (pieces d)
+pieces (Then (SignOff o) d) = begin (SignOff o) (pieces d)
 
 -- each run becomes an If with c, each loop stays
 abbrev pub halved : CondTree → (first : Bool) → List BranchPart → BodyTree
@@ -104,7 +104,7 @@ turned_in c first (Then (Write s) d) = Then (Write s) (turned_in c first d)
 turned_in c first (Then (Copy x) d) = Then (Copy x) (turned_in c first d)
 turned_in c first (Then (For x y s e) d) = Then (For x y s (cond (has_loop e) (halved c first (pieces (turned_in c first e))) (one (half c first e)))) (turned_in c first d)
 turned_in c first (Then (If k a b) d) = Then (If k a b) (turned_in c first d)
-turned_in c first (Then (Off o) d) = Then (Off o) (turned_in c first d)
+turned_in c first (Then (SignOff o) d) = Then (SignOff o) (turned_in c first d)
 
 -- the items that stand for an If of which the body is one branch: each of its longest runs as an If, and its loops, in the bodies of which the same was done
 abbrev pub spread : CondTree → (first : Bool) → BodyTree → BodyTree
@@ -141,9 +141,9 @@ abbrev mutual
   loops query.Empty = 0
   loops (query.Seq es) = all_loops es
   loops (query.Elem name es) = all_loops es
-  loops (query.Path path) = length path.steps
-  loops (query.For cs filter e) = clause_loops cs + loops e
-  loops (query.If c a b) = loops a + loops b
+  loops (query.QueryPath path) = length path.steps
+  loops (query.QueryFor cs filter e) = clause_loops cs + loops e
+  loops (query.QueryIf c a b) = loops a + loops b
 
   pub all_loops : ExprTrees → ℕ
   all_loops query.no_expr = 0
@@ -154,9 +154,9 @@ abbrev mutual
   normal_expr query.Empty names k = Nil
   normal_expr (query.Seq es) names k = normal_exprs es names k
   normal_expr (query.Elem name es) names k = Then (Write (start_tag name)) (join (normal_exprs es names k) (one (Write (end_tag name))))
-  normal_expr (query.Path path) names k = nest (start_var names path.start) path.steps k (λ y. one (Copy y))
-  normal_expr (query.For cs filter e) names k = normal_clauses cs names k (λ inner j. guarded filter inner (normal_expr e inner j))
-  normal_expr (query.If c a b) names k = branch (normal_cond c names) (normal_expr a names k) (normal_expr b names (k + loops a))
+  normal_expr (query.QueryPath path) names k = nest (start_var names path.start) path.steps k (λ y. one (Copy y))
+  normal_expr (query.QueryFor cs filter e) names k = normal_clauses cs names k (λ inner j. guarded filter inner (normal_expr e inner j))
+  normal_expr (query.QueryIf c a b) names k = branch (normal_cond c names) (normal_expr a names k) (normal_expr b names (k + loops a))
 
   pub normal_exprs : ExprTrees → Names → (k : ℕ) → BodyTree
   normal_exprs query.no_expr names k = Nil

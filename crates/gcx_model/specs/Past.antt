@@ -1,7 +1,7 @@
 -- What a buffer has behind it, and the rows that it has then (this project's).
 use Rattle.std.specs.Prelude.{◌≡◌, ℕ, ◌≤◌, Bool, false, not, cond, ◌&&◌, List, [], ◌∷◌, ◌++◌, length, ◌==◌, filter, flat_map, map, drop, Option, Some, None}
 use Rattle.gcx_base.specs.declared.kind.Kind.{Kind}
-use Rattle.gcx_model.specs.Tree.{Node, Root, Under, serial_of, kind_of, above, Tree, Token, opening, grow, is_open_at}
+use Rattle.gcx_model.specs.Tree.{Node, Root, Under, serial_of, kind_of, above, Tree, TreeToken, opening, grow, is_open_at}
 use Rattle.gcx_model.specs.Paths.{matches}
 use Rattle.gcx_model.specs.Members.{In, count}
 use Rattle.gcx_model.specs.Core.{BodyTree, OffTree, PlanTree}
@@ -31,15 +31,15 @@ abbrev pub opening_past : PlanTree → Past
 opening_past plan = record { plan = plan; tree = opening; acts = []; fed = 0 }
 
 -- one token more
-abbrev pub past_fed : Token → Past → Past
+abbrev pub past_fed : TreeToken → Past → Past
 past_fed t past = record past { tree = grow t past.tree; fed = length past.acts }
 
 -- one token more, with no more actions taken before the last token: it differs from `past_fed` in `fed` alone
-abbrev pub past_grown : Token → Past → Past
+abbrev pub past_grown : TreeToken → Past → Past
 past_grown t past = record past { tree = grow t past.tree }
 
 -- the token that opens a node of this kind
-abbrev pub token_for : Kind → Token
+abbrev pub token_for : Kind → TreeToken
 token_for Document = End
 token_for (Element name) = Start name
 token_for (Text b) = Chars b
@@ -82,7 +82,7 @@ IsLast P false a = P.at ≡ Some a
 IsLast P true a = (p : Node) × (s : ℕ) × (b : List ℕ) × (ns : List Node) × (a ≡ Under p s (Text b)) × (P.at ≡ Some p) × (P.nodes ≡ ns ++ a ∷ [])
 
 -- the token opens this node
-abbrev pub Opens : Tree → Token → Node → Type 0
+abbrev pub Opens : Tree → TreeToken → Node → Type 0
 Opens P t n = In n (grow t P).nodes × (In n P.nodes → ⊥)
 
 -- a statement of which the matcher hasn't heard, and the level of its node

@@ -2,7 +2,7 @@
 use Rattle.std.specs.Prelude.{◌≡◌, ℕ, zero, suc, Bool, true, false, cond, not, ◌&&◌, ◌⊎◌, ◌<◌, List, [], ◌∷◌, ◌++◌, length, ◌==◌, filter, Option, Some, None}
 use Rattle.gcx_base.specs.declared.steps.Step.{Step}
 use Rattle.gcx_model.specs.Members.{In}
-use Rattle.gcx_model.specs.Core.{RoleKind, Own, First, Whole, OffTree, ItemTree, Write, Copy, For, If, Off, BodyTree, Nil, Then, RoleRowTree, PlanTree}
+use Rattle.gcx_model.specs.Core.{RoleTarget, Own, First, Whole, OffTree, ItemTree, Write, Copy, For, If, SignOff, BodyTree, Nil, Then, RoleRowTree, PlanTree}
 use Rattle.gcx_model.specs.Variables.{Var, var_tree, path_in, fsa_in, var_rows, straight_list, fsa_list}
 use Rattle.gcx_model.specs.Roles.{own_row, roles_of}
 
@@ -13,7 +13,7 @@ without (Then (Write s) d) = Then (Write s) (without d)
 without (Then (Copy x) d) = Then (Copy x) (without d)
 without (Then (For x y s e) d) = Then (For x y s (without e)) (without d)
 without (Then (If c a b) d) = Then (If c (without a) (without b)) (without d)
-without (Then (Off o) d) = without d
+without (Then (SignOff o) d) = without d
 
 -- the statements of a body, as it is read from the left
 abbrev mutual
@@ -22,7 +22,7 @@ abbrev mutual
   item_offs (Copy x) = []
   item_offs (For x y s d) = offs_in d
   item_offs (If c a b) = offs_in a ++ offs_in b
-  item_offs (Off o) = o ∷ []
+  item_offs (SignOff o) = o ∷ []
 
   pub offs_in : BodyTree → List OffTree
   offs_in Nil = []
@@ -59,7 +59,7 @@ OnlyOffs (Then (Write s) d) = ⊥
 OnlyOffs (Then (Copy x) d) = ⊥
 OnlyOffs (Then (For x y s e) d) = ⊥
 OnlyOffs (Then (If c a b) d) = ⊥
-OnlyOffs (Then (Off o) d) = OnlyOffs d
+OnlyOffs (Then (SignOff o) d) = OnlyOffs d
 
 -- the statements that a body has itself, not in its loops and branches
 abbrev pub own_offs : BodyTree → List OffTree
@@ -68,7 +68,7 @@ own_offs (Then (Write s) d) = own_offs d
 own_offs (Then (Copy x) d) = own_offs d
 own_offs (Then (For x y s e) d) = own_offs d
 own_offs (Then (If c a b) d) = own_offs d
-own_offs (Then (Off o) d) = o ∷ own_offs d
+own_offs (Then (SignOff o) d) = o ∷ own_offs d
 
 -- The statements stand at the end of loops' bodies, each in that of its base. Here d is a body of the variable u, or what stands behind some of its items.
 abbrev pub AtEnds : (u : ℕ) → BodyTree → Type 0
@@ -77,7 +77,7 @@ AtEnds u (Then (Write s) d) = AtEnds u d
 AtEnds u (Then (Copy x) d) = AtEnds u d
 AtEnds u (Then (For x y s e) d) = AtEnds x e × InOrder (own_offs e) × AtEnds u d
 AtEnds u (Then (If c a b) d) = (offs_in a ≡ []) × (offs_in b ≡ []) × AtEnds u d
-AtEnds u (Then (Off o) d) = (o.base ≡ u) × OnlyOffs d × AtEnds u d
+AtEnds u (Then (SignOff o) d) = (o.base ≡ u) × OnlyOffs d × AtEnds u d
 
 -- Placed
 pub record Placed (core : BodyTree) (plan : PlanTree) : Type 0 where
@@ -94,7 +94,7 @@ pub record Placed (core : BodyTree) (plan : PlanTree) : Type 0 where
 
 -- PlanOf: the one such plan, as a function
 
-abbrev pub is_own_kind : RoleKind → Bool
+abbrev pub is_own_kind : RoleTarget → Bool
 is_own_kind Own = true
 is_own_kind First = false
 is_own_kind Whole = false
@@ -130,7 +130,7 @@ at_end os b = filter (λ o. (o.base == b) && not (is_own o)) os ++ filter (λ o.
 
 abbrev pub offs_body : List OffTree → BodyTree
 offs_body [] = Nil
-offs_body (o ∷ os) = Then (Off o) (offs_body os)
+offs_body (o ∷ os) = Then (SignOff o) (offs_body os)
 
 abbrev pub add_offs : BodyTree → List OffTree → BodyTree
 add_offs Nil os = offs_body os
@@ -143,7 +143,7 @@ abbrev mutual
   place_item ends (Copy x) = Copy x
   place_item ends (For x y s d) = For x y s (add_offs (place ends d) (ends x))
   place_item ends (If c a b) = If c a b
-  place_item ends (Off o) = Off o
+  place_item ends (SignOff o) = SignOff o
 
   pub place : (ℕ → List OffTree) → BodyTree → BodyTree
   place ends Nil = Nil

@@ -30,8 +30,8 @@ CoreState plan P k = ReachedFrom plan opening 0 P k
 -- what is left of a body; a round of a loop, with the present match; a copy of which so many actions are taken
 pub data Frame : Type 0 where
   Rest : (d : BodyTree) (env : Env) → Frame
-  Round : (x y : ℕ) (s : Step) (e : BodyTree) (env : Env) (present : Node) → Frame
-  Part : (x : ℕ) (env : Env) (made : ℕ) → Frame
+  LoopRound : (x y : ℕ) (s : Step) (e : BodyTree) (env : Env) (present : Node) → Frame
+  CopyPart : (x : ℕ) (env : Env) (made : ℕ) → Frame
 
 -- the matches behind the present one
 abbrev pub later : Node → List Node → List Node
@@ -49,17 +49,17 @@ behind k o = record { acts = drop k o.acts; done = o.done }
 abbrev pub to_come : Tree → List Frame → Out
 to_come P [] = idle true
 to_come P (Rest d env ∷ fs) = seq (run d env P) (to_come P fs)
-to_come P (Round x y s e env n ∷ fs) = seq (loop (body_at e x env P) (later n (matches P (serial_of (env y)) (s ∷ []))) (is_closed P (env y))) (to_come P fs)
-to_come P (Part x env k ∷ fs) = seq (behind k (copy (length P.nodes) P (env x))) (to_come P fs)
+to_come P (LoopRound x y s e env n ∷ fs) = seq (loop (body_at e x env P) (later n (matches P (serial_of (env y)) (s ∷ []))) (is_closed P (env y))) (to_come P fs)
+to_come P (CopyPart x env k ∷ fs) = seq (behind k (copy (length P.nodes) P (env x))) (to_come P fs)
 
 -- these frames are a point behind the actions `before` of the run of a body
 pub data IsPoint (P : Tree) : BodyTree → Env → (before : List Action) → List Frame → Type 0 where
   Begins : {d : BodyTree} {env : Env} → IsPoint P d env [] (Rest d env ∷ [])
-  Past : {i : ItemTree} {d : BodyTree} {env : Env} {before : List Action} {fs : List Frame} → (run_item i env P).done ≡ true → IsPoint P d env before fs → IsPoint P (Then i d) env ((run_item i env P).acts ++ before) fs
-  InLoop : {x y : ℕ} {s : Step} {e d : BodyTree} {env : Env} {before : List Action} {fs : List Frame} → (pre : List Node) (n : Node) (post : List Node) → matches P (serial_of (env y)) (s ∷ []) ≡ pre ++ n ∷ post → (loop (body_at e x env P) pre true).done ≡ true → IsPoint P e (bind_var env x n) before fs → IsPoint P (Then (For x y s e) d) env ((loop (body_at e x env P) pre true).acts ++ before) (fs ++ Round x y s e env n ∷ Rest d env ∷ [])
+  PastItem : {i : ItemTree} {d : BodyTree} {env : Env} {before : List Action} {fs : List Frame} → (run_item i env P).done ≡ true → IsPoint P d env before fs → IsPoint P (Then i d) env ((run_item i env P).acts ++ before) fs
+  InLoop : {x y : ℕ} {s : Step} {e d : BodyTree} {env : Env} {before : List Action} {fs : List Frame} → (pre : List Node) (n : Node) (post : List Node) → matches P (serial_of (env y)) (s ∷ []) ≡ pre ++ n ∷ post → (loop (body_at e x env P) pre true).done ≡ true → IsPoint P e (bind_var env x n) before fs → IsPoint P (Then (For x y s e) d) env ((loop (body_at e x env P) pre true).acts ++ before) (fs ++ LoopRound x y s e env n ∷ Rest d env ∷ [])
   InYes : {c : CondTree} {a b d : BodyTree} {env : Env} {before : List Action} {fs : List Frame} → truth c env P ≡ True → IsPoint P a env before fs → IsPoint P (Then (If c a b) d) env before (fs ++ Rest d env ∷ [])
   InNo : {c : CondTree} {a b d : BodyTree} {env : Env} {before : List Action} {fs : List Frame} → truth c env P ≡ False → IsPoint P b env before fs → IsPoint P (Then (If c a b) d) env before (fs ++ Rest d env ∷ [])
-  InCopy : {x : ℕ} {d : BodyTree} {env : Env} (before rest : List Action) → (copy (length P.nodes) P (env x)).acts ≡ before ++ rest → IsPoint P (Then (Copy x) d) env before (Part x env (length before) ∷ Rest d env ∷ [])
+  InCopy : {x : ℕ} {d : BodyTree} {env : Env} (before rest : List Action) → (copy (length P.nodes) P (env x)).acts ≡ before ++ rest → IsPoint P (Then (Copy x) d) env before (CopyPart x env (length before) ∷ Rest d env ∷ [])
 
 -- Behind the first k actions of a plan's run: what follows on them is what is still to come.
 abbrev pub PointAt : PlanTree → Tree → ℕ → List Frame → Type 0
@@ -69,5 +69,5 @@ PointAt plan P k fs = IsPoint P plan.body env0 (so_far plan P k) fs
 abbrev pub Bound_in : ℕ → Node → List Frame → Type 0
 Bound_in x n [] = (x ≡ 0) × (n ≡ Root)
 Bound_in x n (Rest d env ∷ fs) = Bound_in x n fs
-Bound_in x n (Round z y s e env m ∷ fs) = ((z ≡ x) × (m ≡ n)) ⊎ Bound_in x n fs
-Bound_in x n (Part z env k ∷ fs) = Bound_in x n fs
+Bound_in x n (LoopRound z y s e env m ∷ fs) = ((z ≡ x) × (m ≡ n)) ⊎ Bound_in x n fs
+Bound_in x n (CopyPart z env k ∷ fs) = Bound_in x n fs

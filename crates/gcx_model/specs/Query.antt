@@ -14,45 +14,45 @@ use Rattle.gcx_model.specs.declared.query.Query.{Query}
 
 mutual
   pub data QueryCondTree : Type 0 where
-    Always : QueryCondTree
-    Exists : (path : PathExpr) → QueryCondTree
-    Compare : (left : QOperand) (rel : Rel) (right : QOperand) → QueryCondTree
-    Not : (condition : QueryCondTree) → QueryCondTree
-    All : (members : QueryCondTrees) → QueryCondTree
-    Any : (members : QueryCondTrees) → QueryCondTree
+    QueryAlways : QueryCondTree
+    QueryExists : (path : PathExpr) → QueryCondTree
+    QueryCompare : (left : QOperand) (rel : Rel) (right : QOperand) → QueryCondTree
+    QueryNot : (condition : QueryCondTree) → QueryCondTree
+    QueryAll : (members : QueryCondTrees) → QueryCondTree
+    QueryAny : (members : QueryCondTrees) → QueryCondTree
 
   pub data QueryCondTrees : Type 0 where
-    no_cond : QueryCondTrees
-    more_conds : (first : QueryCondTree) (rest : QueryCondTrees) → QueryCondTrees
+    no_query_cond : QueryCondTrees
+    more_query_conds : (first : QueryCondTree) (rest : QueryCondTrees) → QueryCondTrees
 
 mutual
   pub data ExprTree : Type 0 where
     Empty : ExprTree
     Seq : (parts : ExprTrees) → ExprTree
     Elem : (name : List ℕ) (body : ExprTrees) → ExprTree
-    Path : (path : PathExpr) → ExprTree
-    For : (clauses : List Clause) (filter : Option QueryCondTree) (body : ExprTree) → ExprTree
-    If : (condition : QueryCondTree) (this other : ExprTree) → ExprTree
+    QueryPath : (path : PathExpr) → ExprTree
+    QueryFor : (clauses : List Clause) (filter : Option QueryCondTree) (body : ExprTree) → ExprTree
+    QueryIf : (condition : QueryCondTree) (this other : ExprTree) → ExprTree
 
   pub data ExprTrees : Type 0 where
     no_expr : ExprTrees
     more_exprs : (first : ExprTree) (rest : ExprTrees) → ExprTrees
 
 abbrev pub conds_of : List QueryCondTree → QueryCondTrees
-conds_of [] = no_cond
-conds_of (c ∷ cs) = more_conds c (conds_of cs)
+conds_of [] = no_query_cond
+conds_of (c ∷ cs) = more_query_conds c (conds_of cs)
 
 abbrev pub exprs_of : List ExprTree → ExprTrees
 exprs_of [] = no_expr
 exprs_of (e ∷ es) = more_exprs e (exprs_of es)
 
 abbrev pub cond_layer : QCond-F QueryCondTree QueryCondTrees → QueryCondTree
-cond_layer qcond.True = Always
-cond_layer (qcond.Exists p) = Exists p
-cond_layer (qcond.Compare l r o) = Compare l r o
-cond_layer (qcond.Not c) = Not (box_value c)
-cond_layer (qcond.All cs) = All cs
-cond_layer (qcond.Any cs) = Any cs
+cond_layer qcond.True = QueryAlways
+cond_layer (qcond.Exists p) = QueryExists p
+cond_layer (qcond.Compare l r o) = QueryCompare l r o
+cond_layer (qcond.Not c) = QueryNot (box_value c)
+cond_layer (qcond.All cs) = QueryAll cs
+cond_layer (qcond.Any cs) = QueryAny cs
 
 abbrev pub conds_layer : QConds-F QueryCondTree QueryCondTrees → QueryCondTrees
 conds_layer cs = conds_of cs.members.items
@@ -68,9 +68,9 @@ abbrev pub expr_layer : Expr-F ExprTree ExprTrees → ExprTree
 expr_layer expr.Empty = Empty
 expr_layer (expr.Seq es) = Seq es
 expr_layer (expr.Elem n es) = Elem n es
-expr_layer (expr.Path p) = Path p
-expr_layer (expr.For cs f b) = For cs (option_map cond_tree f) (box_value b)
-expr_layer (expr.If c a b) = If (cond_tree c) (box_value a) (box_value b)
+expr_layer (expr.Path p) = QueryPath p
+expr_layer (expr.For cs f b) = QueryFor cs (option_map cond_tree f) (box_value b)
+expr_layer (expr.If c a b) = QueryIf (cond_tree c) (box_value a) (box_value b)
 
 abbrev pub exprs_layer : Exprs-F ExprTree ExprTrees → ExprTrees
 exprs_layer es = exprs_of es.members.items

@@ -58,25 +58,25 @@ value_in base (digit before c) = value_in base before * base + worth c
 -- &name;  &#digits;  &#xdigits;
 pub data Reference : Type 0 where
   named : (name : Entity) → Reference
-  decimal : (digits : Digits) → Reference
-  hexadecimal : (digits : Digits) → Reference
+  decimal_reference : (digits : Digits) → Reference
+  hexadecimal_reference : (digits : Digits) → Reference
 
 abbrev pub reference_spelling : Reference → List ℕ
 reference_spelling (named e) = 38 ∷ (entity_name e ++ (59 ∷ []))
-reference_spelling (decimal ds) = 38 ∷ (35 ∷ (digits_spelling ds ++ (59 ∷ [])))
-reference_spelling (hexadecimal ds) = 38 ∷ (35 ∷ (120 ∷ (digits_spelling ds ++ (59 ∷ []))))
+reference_spelling (decimal_reference ds) = 38 ∷ (35 ∷ (digits_spelling ds ++ (59 ∷ [])))
+reference_spelling (hexadecimal_reference ds) = 38 ∷ (35 ∷ (120 ∷ (digits_spelling ds ++ (59 ∷ []))))
 
 -- the character for which it stands
 abbrev pub reference_char : Reference → ℕ
 reference_char (named e) = entity_char e
-reference_char (decimal ds) = value_in 10 ds
-reference_char (hexadecimal ds) = value_in 16 ds
+reference_char (decimal_reference ds) = value_in 10 ds
+reference_char (hexadecimal_reference ds) = value_in 16 ds
 
 -- a number is that of a Char: so there is a digit, since 0 is none
 abbrev pub IsReference : Reference → Type 0
 IsReference (named e) = Unit {0}
-IsReference (decimal ds) = AreDigits is_decimal ds × (is_char (value_in 10 ds) ≡ true)
-IsReference (hexadecimal ds) = AreDigits is_hexadecimal ds × (is_char (value_in 16 ds) ≡ true)
+IsReference (decimal_reference ds) = AreDigits is_decimal ds × (is_char (value_in 10 ds) ≡ true)
+IsReference (hexadecimal_reference ds) = AreDigits is_hexadecimal ds × (is_char (value_in 16 ds) ≡ true)
 
 -- A reference that is begun: an ampersand and letters that begin a name; '&#'; '&#' and at least one digit; or '&#x' and digits.
 pub data BegunReference : Type 0 where

@@ -1,6 +1,6 @@
 -- The roles of a core (this project's profile of ICDE 2007).
 use Rattle.std.specs.Prelude.{ℕ, List, [], ◌∷◌, ◌++◌}
-use Rattle.gcx_model.specs.Core.{OperandTree, Path, Str, Num, CondTree, CondTrees, Always, Exists, Compare, Not, All, Any, no_cond, more_conds, Own, First, Whole, ItemTree, Write, Copy, For, If, Off, BodyTree, Nil, Then, RoleRowTree}
+use Rattle.gcx_model.specs.Core.{OperandTree, Path, Str, Num, CondTree, CondTrees, Always, Exists, Compare, Not, AllOf, AnyOf, no_cond, more_conds, Own, First, Whole, ItemTree, Write, Copy, For, If, SignOff, BodyTree, Nil, Then, RoleRowTree}
 
 abbrev pub own_row : ℕ → RoleRowTree
 own_row x = record { var = x; tail = []; kind = Own }
@@ -19,8 +19,8 @@ abbrev mutual
   cond_rows (Exists x steps) = record { var = x; tail = steps; kind = First } ∷ []
   cond_rows (Compare l rel r) = operand_rows l ++ operand_rows r
   cond_rows (Not c) = cond_rows c
-  cond_rows (All cs) = conds_rows cs
-  cond_rows (Any cs) = conds_rows cs
+  cond_rows (AllOf cs) = conds_rows cs
+  cond_rows (AnyOf cs) = conds_rows cs
 
   pub conds_rows : CondTrees → List RoleRowTree
   conds_rows no_cond = []
@@ -33,7 +33,7 @@ abbrev mutual
   item_rows (Copy x) = whole_row x ∷ []
   item_rows (For x y s d) = own_row x ∷ rows d
   item_rows (If c a b) = cond_rows c ++ (rows a ++ rows b)
-  item_rows (Off o) = []
+  item_rows (SignOff o) = []
 
   pub rows : BodyTree → List RoleRowTree
   rows Nil = []

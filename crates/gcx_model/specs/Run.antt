@@ -6,7 +6,7 @@ use Rattle.gcx_model.specs.Tree.{Node, Root, serial_of, kind_of, Tree, is_closed
 use Rattle.gcx_model.specs.Paths.{matches}
 use Rattle.gcx_model.specs.Written.{start_tag, end_tag, escaped}
 use Rattle.gcx_model.specs.Answer.{children}
-use Rattle.gcx_model.specs.Core.{OffTree, ItemTree, Write, Copy, For, If, Off, BodyTree, Nil, Then}
+use Rattle.gcx_model.specs.Core.{OffTree, ItemTree, Write, Copy, For, If, SignOff, BodyTree, Nil, Then}
 use Rattle.gcx_model.specs.declared.truth.Truth.{Truth}
 use Rattle.gcx_model.specs.declared.truth.Truth.TheVariants.{True, False, Unknown}
 use Rattle.gcx_model.specs.Truth.{Env, bind_var, truth}
@@ -64,7 +64,7 @@ abbrev mutual
   run_item (Copy x) env P = copy (length P.nodes) P (env x)
   run_item (For x y s d) env P = loop (λ n. run d (bind_var env x n) P) (matches P (serial_of (env y)) (s ∷ [])) (is_closed P (env y))
   run_item (If c a b) env P = choose (truth c env P) (run a env P) (run b env P)
-  run_item (Off o) env P = record { acts = Offed o (serial_of (env o.base)) ∷ []; done = true }
+  run_item (SignOff o) env P = record { acts = Offed o (serial_of (env o.base)) ∷ []; done = true }
 
   pub run : BodyTree → Env → Tree → Out
   run Nil env P = idle true

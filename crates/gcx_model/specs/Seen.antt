@@ -3,7 +3,7 @@ use Rattle.std.specs.Prelude.{ℕ, ◌≡◌, ◌≤◌, ◌⊎◌, Bool, true, 
 use lib.Utf8.{scalar, scalars, encode, encodes}
 use Rattle.gcx_base.specs.declared.limits.Limits.{Limits}
 use Rattle.gcx_model.specs.Document.{Nodes, tokens}
-use Rattle.gcx_model.specs.Tree.{Token, End, Tree, opening, grow_all}
+use Rattle.gcx_model.specs.Tree.{TreeToken, End, Tree, opening, grow_all}
 use Rattle.gcx_model.specs.Grammar.{SpellsDocument, Content, nothing, mark, space, char, reference, cdata, comment, bare, instruction, doctype, single, tagged, end_tag_spelling}
 use Rattle.gcx_model.specs.Fronts.{Frames, bottom, frame, Piece, no_piece, OpensFrames, inside, seen_tokens}
 use Rattle.gcx_model.specs.Faults.{Clean, FaultIs}
@@ -14,7 +14,7 @@ use Rattle.gcx_model.specs.Tree.{Node}
 use Rattle.gcx_model.specs.Growth.{level}
 
 -- The characters are a front of a document, and these are the tokens of its whole tags. Those of attributes count with their tag.
-pub record SeenIn (cs : List ℕ) (ts : List Token) : Type 0 where
+pub record SeenIn (cs : List ℕ) (ts : List TreeToken) : Type 0 where
   pub frames : Frames
   pub content : Content
   pub piece : Piece
@@ -31,22 +31,22 @@ pub record IsLongest (lim : Limits) (b cs : List ℕ) : Type 0 where
   pub most : (c : ℕ) (more : List ℕ) → scalar c ≡ true → rest ≡ encode c ++ more → length (encodes (cs ++ c ∷ [])) ≤ lim.bytes → Clean lim (cs ++ c ∷ []) → ⊥
 
 -- the document node is closed where the input ended without a fault
-pub data DocumentEnds (lim : Limits) (b : List ℕ) (ended : Bool) (ends : List Token) : Type 0 where
+pub data DocumentEnds (lim : Limits) (b : List ℕ) (ended : Bool) (ends : List TreeToken) : Type 0 where
   closes : ended ≡ true → FaultIs lim b true None → ends ≡ End ∷ [] → DocumentEnds lim b ended ends
   stays_open : (ended ≡ true → FaultIs lim b true None → ⊥) → ends ≡ [] → DocumentEnds lim b ended ends
 
 -- The tokens that are seen in the bytes.
-pub record SeenIs (lim : Limits) (b : List ℕ) (ended : Bool) (ts : List Token) : Type 0 where
+pub record SeenIs (lim : Limits) (b : List ℕ) (ended : Bool) (ts : List TreeToken) : Type 0 where
   pub chars : List ℕ
   pub longest : IsLongest lim b chars
-  pub tags : List Token
+  pub tags : List TreeToken
   pub seen : SeenIn chars tags
-  pub ends : List Token
+  pub ends : List TreeToken
   pub document_ends : DocumentEnds lim b ended ends
   pub tokens_are : ts ≡ tags ++ ends
 
 -- the tree of tokens
-abbrev pub seen_tree : List Token → Tree
+abbrev pub seen_tree : List TreeToken → Tree
 seen_tree ts = grow_all ts opening
 
 -- the content up to its last tag
@@ -84,7 +84,7 @@ end_tags bottom = []
 end_tags (frame fs x n ats sp) = end_tag_spelling n [] ++ end_tags fs
 
 -- as many ends
-abbrev pub open_ends : Frames → List Token
+abbrev pub open_ends : Frames → List TreeToken
 open_ends bottom = []
 open_ends (frame fs x n ats sp) = End ∷ open_ends fs
 
@@ -99,7 +99,7 @@ pub record LastTag (cs : List ℕ) (fs : Frames) (x : Content) : Type 0 where
 
 -- The same in other words: the longest front of the bytes that has no fault and is empty or ends with a tag; closed by end tags it spells a document,
 -- whose tokens are these and the ends.
-pub record SeenInWords (lim : Limits) (b : List ℕ) (ts : List Token) : Type 0 where
+pub record SeenInWords (lim : Limits) (b : List ℕ) (ts : List TreeToken) : Type 0 where
   pub front : List ℕ
   pub rest : List ℕ
   pub chars : scalars front ≡ true
@@ -109,5 +109,5 @@ pub record SeenInWords (lim : Limits) (b : List ℕ) (ts : List Token) : Type 0 
   pub longest : (c more : List ℕ) → scalars c ≡ true → b ≡ encodes c ++ more → FaultIs lim (encodes c) false None → EndsWithTag c → length c ≤ length front
 
 -- the tree behind each front of the tokens has no more than 2^40 nodes beside the document node, and no element deeper than 1,000 is open
-abbrev pub AreWithin : List Token → Type 0
-AreWithin ts = (before after : List Token) → ts ≡ before ++ after → (length (seen_tree before).nodes ≤ 2 ^ 40 + 1) × ((p : Node) → (seen_tree before).at ≡ Some p → level p ≤ 1000)
+abbrev pub AreWithin : List TreeToken → Type 0
+AreWithin ts = (before after : List TreeToken) → ts ≡ before ++ after → (length (seen_tree before).nodes ≤ 2 ^ 40 + 1) × ((p : Node) → (seen_tree before).at ≡ Some p → level p ≤ 1000)

@@ -6,7 +6,7 @@ use Rattle.gcx_model.specs.declared.query.Clause.{Clause}
 use Rattle.gcx_model.specs.declared.query.QOperand.{QOperand}
 use Rattle.gcx_model.specs.declared.query.QOperand.TheVariants as operand
 use Rattle.gcx_model.specs.Paths.{any}
-use Rattle.gcx_model.specs.Query.{QueryCondTree, QueryCondTrees, Always, Exists, Compare, Not, All, Any, no_cond, more_conds, ExprTree, ExprTrees, Empty, Seq, Elem, Path, For, If, no_expr, more_exprs, exprs_of}
+use Rattle.gcx_model.specs.Query.{QueryCondTree, QueryCondTrees, QueryAlways, QueryExists, QueryCompare, QueryNot, QueryAll, QueryAny, no_query_cond, more_query_conds, ExprTree, ExprTrees, Empty, Seq, Elem, QueryPath, QueryFor, QueryIf, no_expr, more_exprs, exprs_of}
 use Rattle.gcx_model.specs.Variables.{is_child}
 
 -- each step but the last is a child step
@@ -43,22 +43,22 @@ is_literal (operand.Str bytes) = true
 is_literal (operand.Num units) = true
 
 abbrev pub two_conds : QueryCondTrees → Bool
-two_conds no_cond = false
-two_conds (more_conds c no_cond) = false
-two_conds (more_conds c (more_conds d ds)) = true
+two_conds no_query_cond = false
+two_conds (more_query_conds c no_query_cond) = false
+two_conds (more_query_conds c (more_query_conds d ds)) = true
 
 abbrev mutual
   pub is_cond : (scope : List (List ℕ)) → QueryCondTree → Bool
-  is_cond scope Always = true
-  is_cond scope (Exists path) = is_path scope path
-  is_cond scope (Compare left rel right) = (is_side scope left && is_side scope right) && not (is_literal left && is_literal right)
-  is_cond scope (Not c) = is_cond scope c
-  is_cond scope (All cs) = two_conds cs && are_conds scope cs
-  is_cond scope (Any cs) = two_conds cs && are_conds scope cs
+  is_cond scope QueryAlways = true
+  is_cond scope (QueryExists path) = is_path scope path
+  is_cond scope (QueryCompare left rel right) = (is_side scope left && is_side scope right) && not (is_literal left && is_literal right)
+  is_cond scope (QueryNot c) = is_cond scope c
+  is_cond scope (QueryAll cs) = two_conds cs && are_conds scope cs
+  is_cond scope (QueryAny cs) = two_conds cs && are_conds scope cs
 
   pub are_conds : (scope : List (List ℕ)) → QueryCondTrees → Bool
-  are_conds scope no_cond = true
-  are_conds scope (more_conds c cs) = is_cond scope c && are_conds scope cs
+  are_conds scope no_query_cond = true
+  are_conds scope (more_query_conds c cs) = is_cond scope c && are_conds scope cs
 
 -- each clause's variable is in scope in the later ones
 abbrev pub are_clauses : (scope : List (List ℕ)) → List Clause → Bool
@@ -91,9 +91,9 @@ abbrev mutual
   is_expr scope Empty = true
   is_expr scope (Seq es) = two_exprs es && are_exprs scope es
   is_expr scope (Elem name es) = are_exprs scope es
-  is_expr scope (Path path) = is_ordered_path scope path
-  is_expr scope (For cs filter body) = (has_clause cs && are_clauses scope cs) && (is_filter (scope_of scope cs) filter && is_expr (scope_of scope cs) body)
-  is_expr scope (If c this other) = is_cond scope c && (is_expr scope this && is_expr scope other)
+  is_expr scope (QueryPath path) = is_ordered_path scope path
+  is_expr scope (QueryFor cs filter body) = (has_clause cs && are_clauses scope cs) && (is_filter (scope_of scope cs) filter && is_expr (scope_of scope cs) body)
+  is_expr scope (QueryIf c this other) = is_cond scope c && (is_expr scope this && is_expr scope other)
 
   pub are_exprs : (scope : List (List ℕ)) → ExprTrees → Bool
   are_exprs scope no_expr = true

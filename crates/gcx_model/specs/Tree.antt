@@ -33,10 +33,10 @@ pub record Tree : Type 0 where
   pub at : Option Node
 
 -- what is read: the start of an element, a text, or the end of the innermost open node
-pub data Token : Type 0 where
-  Start : (name : List ℕ) → Token
-  Chars : (bytes : List ℕ) → Token
-  End : Token
+pub data TreeToken : Type 0 where
+  Start : (name : List ℕ) → TreeToken
+  Chars : (bytes : List ℕ) → TreeToken
+  End : TreeToken
 
 -- P0: the open document node alone
 abbrev pub opening : Tree
@@ -45,7 +45,7 @@ opening = record { nodes = Root ∷ []; at = Some Root }
 abbrev pub with_new : Tree → Node → Option Node → Tree
 with_new P n at = record { nodes = P.nodes ++ n ∷ []; at = at }
 
-abbrev pub grow_at : Option Node → Token → Tree → Tree
+abbrev pub grow_at : Option Node → TreeToken → Tree → Tree
 grow_at None t P = P
 grow_at (Some p) (Start name) P = with_new P (Under p (length P.nodes) (Element name)) (Some (Under p (length P.nodes) (Element name)))
 grow_at (Some p) (Chars bytes) P = with_new P (Under p (length P.nodes) (Text bytes)) (Some p)
@@ -53,10 +53,10 @@ grow_at (Some Root) End P = record { nodes = P.nodes; at = None }
 grow_at (Some (Under p s k)) End P = record { nodes = P.nodes; at = Some p }
 
 -- the tree with one token more: a new last child of the innermost open node, or that node closed
-abbrev pub grow : Token → Tree → Tree
+abbrev pub grow : TreeToken → Tree → Tree
 grow t P = grow_at P.at t P
 
-abbrev pub grow_all : List Token → Tree → Tree
+abbrev pub grow_all : List TreeToken → Tree → Tree
 grow_all [] P = P
 grow_all (t ∷ ts) P = grow_all ts (grow t P)
 

@@ -4,9 +4,9 @@ use Rattle.gcx_model.specs.declared.truth.Truth.{Truth}
 use Rattle.gcx_model.specs.declared.truth.Truth.TheVariants.{True, False, Unknown}
 use Rattle.gcx_model.specs.Tree.{Node, serial_of, Tree, is_closed}
 use Rattle.gcx_model.specs.Paths.{matches, value}
-use Rattle.gcx_model.specs.Values.{Value, Bytes, Units, compare}
+use Rattle.gcx_model.specs.Values.{ComparedValue, Bytes, Units, compare}
 use Rattle.gcx_model.specs.Answer.{is_any, some_pair}
-use Rattle.gcx_model.specs.Core.{OperandTree, Path, Str, Num, CondTree, CondTrees, Always, Exists, Compare, Not, All, Any, no_cond, more_conds}
+use Rattle.gcx_model.specs.Core.{OperandTree, Path, Str, Num, CondTree, CondTrees, Always, Exists, Compare, Not, AllOf, AnyOf, no_cond, more_conds}
 
 -- the node to which each variable is bound
 abbrev pub Env : Type 0
@@ -15,11 +15,11 @@ Env = ℕ → Node
 abbrev pub bind_var : Env → ℕ → Node → Env
 bind_var env x n = λ y. cond (y == x) n (env y)
 
-abbrev pub node_value : Tree → Node → Value
+abbrev pub node_value : Tree → Node → ComparedValue
 node_value P n = Bytes (value P n)
 
 -- a literal, or the values of the closed nodes for which the operand stands so far
-abbrev pub settled_values : Tree → Env → OperandTree → List Value
+abbrev pub settled_values : Tree → Env → OperandTree → List ComparedValue
 settled_values P env (Path x steps) = map (node_value P) (filter (is_closed P) (matches P (serial_of (env x)) steps))
 settled_values P env (Str b) = Bytes b ∷ []
 settled_values P env (Num l) = Units l ∷ []
@@ -60,8 +60,8 @@ abbrev mutual
   truth (Exists x steps) env P = settle (is_any (matches P (serial_of (env x)) steps)) (is_closed P (env x))
   truth (Compare l rel r) env P = settle (some_pair (compare rel) (settled_values P env l) (settled_values P env r)) (is_over P env l && is_over P env r)
   truth (Not c) env P = negate (truth c env P)
-  truth (All cs) env P = truth_all cs env P
-  truth (Any cs) env P = truth_any cs env P
+  truth (AllOf cs) env P = truth_all cs env P
+  truth (AnyOf cs) env P = truth_any cs env P
 
   pub truth_all : CondTrees → Env → Tree → Truth
   truth_all no_cond env P = True

@@ -12,8 +12,8 @@ use Rattle.gcx_base.specs.declared.rel.Rel.TheVariants.{Eq, Ne, Lt, Le, Gt, Ge}
 -- ---- The number as which a value counts: optional white space, an optional sign, digits with an optional point among
 -- or round them (at least one digit), optional white space.
 
-abbrev pub is_digit : ℕ → Bool
-is_digit c = nat_le 48 c && nat_le c 57
+abbrev pub is_digit_byte : ℕ → Bool
+is_digit_byte c = nat_le 48 c && nat_le c 57
 
 -- without the white space at one end, at both ends
 abbrev pub without_front : List ℕ → List ℕ
@@ -48,7 +48,7 @@ fraction_of t = after_first is_point t
 
 -- nothing but digits, and at least one
 abbrev pub is_numeral : List ℕ → Bool
-is_numeral ds = nat_lt 0 (length ds) && list_all is_digit ds
+is_numeral ds = nat_lt 0 (length ds) && list_all is_digit_byte ds
 
 -- the number that digits write behind those of n
 abbrev pub digits_from : ℕ → List ℕ → ℕ
@@ -64,11 +64,11 @@ pub record Decimal : Type 0 where
   pub places : ℕ
 
 -- the integer of all digits with the sign, and how many stand behind the point
-abbrev pub decimal : Bool → List ℕ → List ℕ → Decimal
-decimal minus whole fraction = record { units = with_sign minus (digits_from 0 (whole ++ fraction)); places = length fraction }
+abbrev pub decimal_number : Bool → List ℕ → List ℕ → Decimal
+decimal_number minus whole fraction = record { units = with_sign minus (digits_from 0 (whole ++ fraction)); places = length fraction }
 
 abbrev pub decimal_of : Bool → List ℕ → List ℕ → Option Decimal
-decimal_of minus whole fraction = if is_numeral (whole ++ fraction) then Some (decimal minus whole fraction) else None
+decimal_of minus whole fraction = if is_numeral (whole ++ fraction) then Some (decimal_number minus whole fraction) else None
 
 unfoldable pub number : List ℕ → Option Decimal
 number v = let t = trimmed v in decimal_of (is_negative t) (whole_of (without_sign t)) (fraction_of (without_sign t))
@@ -92,19 +92,19 @@ is_minus Minus = true
 
 -- digits alone, or a point with digits before and behind it
 pub data Numeral : Type 0 where
-  Whole : (digits : List ℕ) → Numeral
+  DigitsAlone : (digits : List ℕ) → Numeral
   Pointed : (before behind : List ℕ) → Numeral
 
 abbrev pub numeral_bytes : Numeral → List ℕ
-numeral_bytes (Whole digits) = digits
+numeral_bytes (DigitsAlone digits) = digits
 numeral_bytes (Pointed before behind) = before ++ 46 ∷ behind
 
 abbrev pub before_point : Numeral → List ℕ
-before_point (Whole digits) = digits
+before_point (DigitsAlone digits) = digits
 before_point (Pointed before behind) = before
 
 abbrev pub behind_point : Numeral → List ℕ
-behind_point (Whole digits) = []
+behind_point (DigitsAlone digits) = []
 behind_point (Pointed before behind) = behind
 
 -- v is spelled in this way, and d is its number
@@ -117,7 +117,7 @@ pub record CountsAs (v : List ℕ) (d : Decimal) : Type 0 where
   pub white_front : list_all is_white front ≡ true
   pub white_back : list_all is_white back ≡ true
   pub digits : is_numeral (before_point numeral ++ behind_point numeral) ≡ true
-  pub value : d ≡ decimal (is_minus sign) (before_point numeral) (behind_point numeral)
+  pub value : d ≡ decimal_number (is_minus sign) (before_point numeral) (behind_point numeral)
 
 -- ---- Pairs of values.
 
@@ -126,12 +126,12 @@ abbrev pub against : Decimal → ℤ → Ordering
 against d l = int_cmp (d.units *ℤ pos (10 ^ 18)) (l *ℤ pos (10 ^ d.places))
 
 -- the bytes of a node or of a string literal, or a number literal in units of 10^-18
-pub data Value : Type 0 where
-  Bytes : (bytes : List ℕ) → Value
-  Units : (units : ℤ) → Value
+pub data ComparedValue : Type 0 where
+  Bytes : (bytes : List ℕ) → ComparedValue
+  Units : (units : ℤ) → ComparedValue
 
 -- None where a value that is compared with a number doesn't count as one
-abbrev pub order : Value → Value → Option Ordering
+abbrev pub order : ComparedValue → ComparedValue → Option Ordering
 order (Bytes v) (Bytes w) = Some (slice_cmp nat_cmp v w)
 order (Bytes v) (Units l) = option_map (λ d. against d l) (number v)
 order (Units l) (Bytes w) = option_map (λ d. ordering_reverse (against d l)) (number w)
@@ -146,5 +146,5 @@ rel_holds Gt o = is_gt o
 rel_holds Ge o = is_ge o
 
 -- whether a relation holds of a pair; of one that has no order none does
-abbrev pub compare : Rel → Value → Value → Bool
+abbrev pub compare : Rel → ComparedValue → ComparedValue → Bool
 compare rel v w = is_some_and (rel_holds rel) (order v w)

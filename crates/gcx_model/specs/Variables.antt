@@ -3,7 +3,7 @@ use Rattle.std.specs.Prelude.{ℕ, Bool, true, false, cond, ◌&&◌, List, [], 
 use Rattle.gcx_base.specs.declared.steps.Axis.{Axis}
 use Rattle.gcx_base.specs.declared.steps.Axis.TheVariants.{Child, Descendant}
 use Rattle.gcx_base.specs.declared.steps.Step.{Step}
-use Rattle.gcx_model.specs.Core.{ItemTree, Write, Copy, For, If, Off, BodyTree, Nil, Then, VarRowTree}
+use Rattle.gcx_model.specs.Core.{ItemTree, Write, Copy, For, If, SignOff, BodyTree, Nil, Then, VarRowTree}
 
 abbrev pub is_child : Axis → Bool
 is_child Child = true
@@ -51,7 +51,7 @@ abbrev mutual
   tree_item (Copy x) u F = F
   tree_item (For x y s d) u F = tree_body d x (set_var F x (var_of u x y s (F y)))
   tree_item (If c a b) u F = tree_body b u (tree_body a u F)
-  tree_item (Off o) u F = F
+  tree_item (SignOff o) u F = F
 
   pub tree_body : BodyTree → ℕ → (ℕ → Var) → ℕ → Var
   tree_body Nil u F = F
@@ -78,7 +78,7 @@ abbrev mutual
   item_vars (Copy x) = []
   item_vars (For x y s d) = x ∷ vars d
   item_vars (If c a b) = vars a ++ vars b
-  item_vars (Off o) = []
+  item_vars (SignOff o) = []
 
   pub vars : BodyTree → List ℕ
   vars Nil = []
@@ -91,7 +91,7 @@ abbrev mutual
   item_var_rows (Copy x) = []
   item_var_rows (For x y s d) = record { parent = y; step = s } ∷ var_rows d
   item_var_rows (If c a b) = var_rows a ++ var_rows b
-  item_var_rows (Off o) = []
+  item_var_rows (SignOff o) = []
 
   pub var_rows : BodyTree → List VarRowTree
   var_rows Nil = []

@@ -1,5 +1,5 @@
 ghost use Rattle.std.specs.Prelude.{◌≡◌};
-ghost use Rattle.gcx_model.specs.declared.fault.DocFault.TheVariants.{Memory as document_memory};
+ghost use Rattle.gcx_model.specs.declared.fault.DocFault.TheVariants as doc_faults;
 ghost use Rattle.gcx_model.specs.declared.fault.QueryFault.TheVariants.{Memory as query_memory};
 
 use gcx_base::Memory;
@@ -94,7 +94,7 @@ pub enum DocFault {
 }
 
 impl From<Memory> for DocFault {
-    ghost from_gives = { λ _ e. e ≡ document_memory };
+    ghost from_gives = { λ _ e. e ≡ doc_faults.Memory };
 
     fn from(_: Memory) -> DocFault {
         DocFault::Memory

@@ -301,7 +301,7 @@ fn loop_over(
     alloc: Global,
 ) -> Result<Expr, Memory>
     ensures { IfOk result (λ expr. expr_tree expr ≡
-        tree.For clauses.now (option_map cond_tree filter.now) (expr_tree (box_value body))) }
+        tree.QueryFor clauses.now (option_map cond_tree filter.now) (expr_tree (box_value body))) }
 {
     let clauses = clauses.copy(alloc)?;
     let filter = copy_filter(filter, alloc)?;
@@ -315,7 +315,7 @@ fn loop_over(
 /// An `if` with these branches, and a copy of the condition.
 fn choice_of(cond: &QCond, then: Box<Expr>, other: Box<Expr>, alloc: Global) -> Result<Expr, Memory>
     ensures { IfOk result (λ expr. expr_tree expr ≡
-        tree.If (cond_tree cond.now) (expr_tree (box_value then)) (expr_tree (box_value other))) }
+        tree.QueryIf (cond_tree cond.now) (expr_tree (box_value then)) (expr_tree (box_value other))) }
 {
     let cond = cond.copy(alloc)?;
     Ok(Expr::If { cond, then, other })

@@ -122,10 +122,10 @@ in_Copy i x e = ap item_tree e ∙ fold_Copy x
     fold_Copy : (x : VarId) → item_tree (item.Copy x) ≡ tree.Copy x.0
     fold_Copy x = search (rules, item_lemmas)
 
-pub in_Off : (i : Item) (off : Off) → i ≡ item.Off off → item_tree i ≡ tree.Off (off_tree off)
+pub in_Off : (i : Item) (off : Off) → i ≡ item.Off off → item_tree i ≡ tree.SignOff (off_tree off)
 in_Off i off e = ap item_tree e ∙ fold_Off off
   where
-    fold_Off : (off : Off) → item_tree (item.Off off) ≡ tree.Off (off_tree off)
+    fold_Off : (off : Off) → item_tree (item.Off off) ≡ tree.SignOff (off_tree off)
     fold_Off off = search (rules, item_lemmas)
 
 pub in_For : (i : Item) (var from : VarId) (step : Step) (body : Body) → i ≡ item.For var from step body → item_tree i ≡ tree.For var.0 from.0 step (body_tree body)

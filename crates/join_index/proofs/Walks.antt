@@ -2,7 +2,7 @@
 use Rattle.std.proofs.Common.{◌≡◌, ◌≢◌, ◌+◌, ◌<◌, ◌≤◌, ◌∙◌, ℕ, List, map, length, get_or, sym, subst, inl, inr, arith}
 use Rattle.std.proofs.lemmas.Bool.{cases_lt}
 use Rattle.gcx_model.specs.Tree.{Tree}
-use Rattle.gcx_model.specs.Core.{OperandTree, CondTree, All, Any}
+use Rattle.gcx_model.specs.Core.{OperandTree, CondTree, AllOf, AnyOf}
 use Rattle.gcx_model.specs.CondView.{core_cond_tree, core_conds_of}
 use Rattle.gcx_model.specs.declared.cond.Cond.{Cond}
 use Rattle.gcx_model.specs.declared.truth.Truth.{Truth}
@@ -21,10 +21,10 @@ module _ (v : View) (bound : Bindings) (k : IndexView) (items : List Cond) where
   before = Over v.nodes (IsIndex k)
 
   abbrev all_of : CondTree
-  all_of = All (core_conds_of (map core_cond_tree items))
+  all_of = AllOf (core_conds_of (map core_cond_tree items))
 
   abbrev any_of : CondTree
-  any_of = Any (core_conds_of (map core_cond_tree items))
+  any_of = AnyOf (core_conds_of (map core_cond_tree items))
 
   -- the first members had this truth
   abbrev pub HavePassed : (whole : CondTree) → (want : Truth) → (seen : ℕ) → Type 0

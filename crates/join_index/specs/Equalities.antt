@@ -2,7 +2,7 @@
 use Rattle.std.specs.Prelude.{◌≡◌, ◌≢◌, ◌⊎◌, ◌↔◌, cond, ltb, List, None}
 use Rattle.gcx_base.specs.declared.rel.Rel.TheVariants.{Eq}
 use Rattle.gcx_model.specs.Members.{In}
-use Rattle.gcx_model.specs.Core.{OperandTree, Path, Str, Num, CondTree, CondTrees, Always, Exists, Compare, Not, All, Any, no_cond, more_conds, ItemTree, BodyTree, Write, Copy, For, If, Off, Nil, Then}
+use Rattle.gcx_model.specs.Core.{OperandTree, Path, Str, Num, CondTree, CondTrees, Always, Exists, Compare, Not, AllOf, AnyOf, no_cond, more_conds, ItemTree, BodyTree, Write, Copy, For, If, SignOff, Nil, Then}
 use Rattle.cond_memo.specs.Waiting.{Fits}
 use Rattle.join_index.specs.declared.equality.Side.{Side}
 use Rattle.join_index.specs.declared.equality.Equality.{Equality}
@@ -26,8 +26,8 @@ abbrev mutual
   CondHas l r (Exists x steps) = ⊥
   CondHas l r (Compare left rel right) = (left ≡ l) × (rel ≡ Eq) × (right ≡ r)
   CondHas l r (Not c) = CondHas l r c
-  CondHas l r (All cs) = SomeHas l r cs
-  CondHas l r (Any cs) = SomeHas l r cs
+  CondHas l r (AllOf cs) = SomeHas l r cs
+  CondHas l r (AnyOf cs) = SomeHas l r cs
 
   pub SomeHas : (left right : OperandTree) → CondTrees → Type 0
   SomeHas l r no_cond = ⊥
@@ -39,7 +39,7 @@ abbrev mutual
   ItemHas l r (Copy x) = ⊥
   ItemHas l r (For x y step d) = BodyHas l r d
   ItemHas l r (If c d e) = CondHas l r c ⊎ (BodyHas l r d ⊎ BodyHas l r e)
-  ItemHas l r (Off o) = ⊥
+  ItemHas l r (SignOff o) = ⊥
 
   pub BodyHas : (left right : OperandTree) → BodyTree → Type 0
   BodyHas l r Nil = ⊥

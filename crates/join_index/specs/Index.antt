@@ -4,7 +4,7 @@ use Rattle.std.specs.FinMap.{get}
 use Rattle.gcx_base.specs.declared.rel.Rel.TheVariants.{Eq}
 use Rattle.gcx_model.specs.Tree.{Tree, is_closed}
 use Rattle.gcx_model.specs.Members.{In}
-use Rattle.gcx_model.specs.Core.{OperandTree, Path, Str, Num, CondTree, CondTrees, Always, Exists, Compare, Not, All, Any, no_cond, more_conds}
+use Rattle.gcx_model.specs.Core.{OperandTree, Path, Str, Num, CondTree, CondTrees, Always, Exists, Compare, Not, AllOf, AnyOf, no_cond, more_conds}
 use Rattle.gcx_model.specs.declared.truth.Truth.{Truth}
 use Rattle.gcx_model.specs.declared.truth.Truth.TheVariants.{True, False}
 use Rattle.gcx_model.specs.Truth.{Env, truth}
@@ -75,8 +75,8 @@ abbrev mutual
   ReachesEquality l r (Exists x steps) env P = ⊥
   ReachesEquality l r (Compare left rel right) env P = (left ≡ l) × (rel ≡ Eq) × (right ≡ r)
   ReachesEquality l r (Not c) env P = ReachesEquality l r c env P
-  ReachesEquality l r (All cs) env P = ReachesAll l r cs env P
-  ReachesEquality l r (Any cs) env P = ReachesAny l r cs env P
+  ReachesEquality l r (AllOf cs) env P = ReachesAll l r cs env P
+  ReachesEquality l r (AnyOf cs) env P = ReachesAny l r cs env P
 
   pub ReachesAll : (left right : OperandTree) → CondTrees → Env → Tree → Type 0
   ReachesAll l r no_cond env P = ⊥

@@ -5,12 +5,13 @@ use Rattle.gcx_model.specs.Core.{PlanTree}
 use Rattle.gcx_model.specs.Growth.{Leads}
 use Rattle.gcx_model.specs.PlanView.{plan_tree}
 use Rattle.gcx_model.specs.Seen.{seen_tree}
-use Rattle.gcx_model.specs.Tree.{Tree, Token as Said, opening}
-use Rattle.engine.specs.Actors.{all_of, bytes_at}
-use Rattle.engine.proofs.Writing.{bytes_front, goes_front, goes_none}
-use Rattle.many_run.specs.Parts.{PartBreaks, PartGoes, TakesSomeTokens, TakesTokens}
-use Rattle.many_run.specs.View.{PartView}
-use Rattle.many_run.proofs.Taking.{come_leads}
+use Rattle.gcx_model.specs.Tree.{Tree, TreeToken as Said, opening}
+use Rattle.run_part.specs.Actors.{all_of, bytes_at}
+use Rattle.run_part.proofs.Writing.{goes_front, goes_none}
+use Rattle.run_part.specs.Part.{PartBreaks, PartGoes, PartTakesSome, PartTakes, told_behind}
+use Rattle.run_part.specs.View.{PartView}
+use Rattle.run_part.proofs.PartTaking.{come_leads, part_balanced}
+use Rattle.run_part.proofs.Telling.{part_all, part_none}
 
 -- a whole way is one that broke at its end
 pub breaks_whole : (plan : PlanTree) (ts us : List Said) (u v : List ℕ) → PartGoes plan ts us u v → PartBreaks plan ts us u v
@@ -28,18 +29,6 @@ breaks_start plan ts us u l m =
     let r = goes_front plan P (all_of plan P) P (all_of plan P) (seen_tree us) u u (goes_none plan P (all_of plan P) u) l m (omega arith) in
     record { part = r.0; rest = r.1; written = r.2; grew = r.3 }
 
--- more tokens write more
-pub breaks_more : (plan : PlanTree) (ts us vs : List Said) (u v : List ℕ) → PartBreaks plan ts us u v → Leads opening (seen_tree us) → Leads (seen_tree us) (seen_tree vs) → PartBreaks plan ts vs u v
-breaks_more plan ts us vs u v p l m =
-    let before = bytes_at plan (seen_tree ts) (all_of plan (seen_tree ts)) in
-    let r = bytes_front plan (seen_tree us) (seen_tree vs) (all_of plan (seen_tree us)) l m (omega arith) in
-    record {
-      part = p.part;
-      rest = p.rest ++ r.0;
-      written = r.1 ∙ (ap (λ (z : List ℕ). z ++ r.0) p.written ∙ (append_assoc before (p.part ++ p.rest) r.0 ∙ ap (λ (z : List ℕ). before ++ z) (append_assoc p.part p.rest r.0)));
-      grew = p.grew;
-    }
-
 -- a whole way before one that broke
 pub breaks_behind : (plan : PlanTree) (ts us vs : List Said) (u v w : List ℕ) → PartGoes plan ts us u v → PartBreaks plan us vs v w → PartBreaks plan ts vs u w
 breaks_behind plan ts us vs u v w g p =
@@ -53,13 +42,23 @@ breaks_behind plan ts us vs u v w g p =
 
 module _ {C : Type 0} (stands : C → Tree → Type 0) (more : List Said) where
   -- all of them were taken
-  pub some_of_all : (old new : PartView C) → TakesTokens stands old new more → TakesSomeTokens stands old new more
-  some_of_all old new t given s c =
-      let k = t given s c in
-      record { plan = k.plan; breaks = breaks_whole (plan_tree old.plan) given (given ++ more) old.out new.out k.goes }
+  pub some_of_all : (old new : PartView C) → PartTakes stands old new more → PartTakesSome stands old new more
+  some_of_all old new t ahead given s c =
+      let k = t ahead given s c in
+      record {
+        plan = k.plan;
+        breaks = breaks_whole (plan_tree old.plan) given (given ++ more) old.out new.out k.goes;
+        balance = part_balanced stands ahead (given ++ more) new k.stand;
+        told = λ wanted. part_all old.trace new.trace (told_behind (plan_tree old.plan) given more) (k.told wanted);
+      }
 
   -- or none
-  pub some_of_none : (old : PartView C) → TakesSomeTokens stands old old more
-  some_of_none old given s c =
+  pub some_of_none : (old : PartView C) → PartTakesSome stands old old more
+  some_of_none old ahead given s c =
       let l = come_leads given more c in
-      record { plan = refl; breaks = breaks_start (plan_tree old.plan) given (given ++ more) old.out l.0 l.1 }
+      record {
+        plan = refl;
+        breaks = breaks_start (plan_tree old.plan) given (given ++ more) old.out l.0 l.1;
+        balance = part_balanced stands ahead given old s;
+        told = λ wanted. part_none old.trace old.trace (told_behind (plan_tree old.plan) given more) refl;
+      }

@@ -9,7 +9,7 @@ use Rattle.gcx_model.specs.PlanView.{plan_tree}
 use Rattle.gcx_model.specs.Points.{actions, so_far}
 use Rattle.gcx_model.specs.Run.{Action}
 use Rattle.gcx_model.specs.Seen.{seen_tree}
-use Rattle.gcx_model.specs.Tree.{Tree, Token as Said, End}
+use Rattle.gcx_model.specs.Tree.{Tree, TreeToken as Said, End}
 use Rattle.tree_laws.specs.Growth.{AllClosed}
 use Rattle.tree_laws.proofs.Documents.{documents_grow}
 use Rattle.placed_laws.proofs.Balances.{empty_law}
@@ -17,15 +17,17 @@ use Rattle.gcx_model.specs.declared.fault.DocFault.{DocFault}
 use Rattle.doc_reader.specs.Standing.{Accepted, Answers, IsFault, ReaderView, Stands, Token, answer_by, said_of, waiting}
 use Rattle.buf_tree.specs.Shape.{Cell}
 use Rattle.buf_tree.specs.Stands.{seen, told}
-use Rattle.engine.specs.Actors.{all_of, bytes_at, past_at}
+use Rattle.run_part.specs.Actors.{all_of, bytes_at, past_at}
 use Rattle.engine.specs.Engine.{GrewBy, OnAnswer}
 use Rattle.engine.proofs.Courses.{answer_of_fault, grew_none, on_answer, settled_by}
 use Rattle.engine.proofs.Ending.{document_closed, document_seen}
 use Rattle.engine.proofs.Waiting.{on_none}
 use Rattle.engine.proofs.Whole.{TokensOf, all_closed, tokens_whole}
-use Rattle.engine.proofs.Writing.{all_is}
-use Rattle.many_run.specs.Many.{ManyKept, ManyLost, ManyStand, NoneHeld, PartGrew, PartStands}
-use Rattle.many_run.specs.View.{ManyView, PartView}
+use Rattle.run_part.proofs.Writing.{all_is}
+use Rattle.many_run.specs.Many.{ManyKept, ManyLost, ManyStand, NoneHeld, PartGrew}
+use Rattle.run_part.specs.Part.{PartStands}
+use Rattle.many_run.specs.View.{ManyView}
+use Rattle.run_part.specs.View.{PartView}
 use Rattle.many_run.proofs.Walking.{each_same}
 
 no_rows : (past : Past) (xs : List Cell) → map seen xs ≡ map (told past) [] → xs ≡ []
@@ -39,9 +41,9 @@ module _ {C : Type 0} (stands : C → Tree → Type 0) (ts : List Said) (doc : N
   closed_here : AllClosed P
   closed_here = subst (λ (T : Tree). AllClosed T) (sym (document_closed ts doc is)) closed
 
-  nothing_held : (p : PartView C) → PartStands stands ts p → p.actors.buffer.rows ≡ []
+  nothing_held : (p : PartView C) → PartStands stands 1 ts p → p.actors.buffer.rows ≡ []
   nothing_held p s =
-      let a = s.actors in
+      let a = s.1.actors in
       let h = a.beside.buffer.is_past in
       let plan = plan_tree p.plan in
       let none : held plan P (actions plan P) ≡ [] = empty_law h.core h.good plan h.placed P h.grown closed_here in

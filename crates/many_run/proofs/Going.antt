@@ -9,24 +9,26 @@ use Rattle.gcx_model.specs.Core.{PlanTree}
 use Rattle.gcx_model.specs.Growth.{Leads}
 use Rattle.gcx_model.specs.PlanView.{plan_tree}
 use Rattle.gcx_model.specs.Seen.{seen_tree}
-use Rattle.gcx_model.specs.Tree.{Tree, Token as Said, opening}
+use Rattle.gcx_model.specs.Tree.{Tree, TreeToken as Said, opening}
 use Rattle.gcx_model.specs.declared.fault.DocFault.{DocFault}
 use Rattle.doc_reader.specs.Standing.{ReaderView, Stands, Token, behind_lent, lent_next, said_of, waiting}
 use Rattle.doc_reader.proofs.Behind.{stands_all, waits_all}
-use Rattle.engine.specs.Actors.{all_of}
+use Rattle.run_part.specs.Actors.{all_of}
 use Rattle.engine.specs.Calls.{TakesLent}
 use Rattle.engine.specs.Going.{lacking}
-use Rattle.engine.specs.Late.{AllCome}
-use Rattle.engine.proofs.Grouping.{given_come}
+use Rattle.run_part.specs.Late.{AllCome}
 use Rattle.engine.proofs.Lending.{all_come, said_lent_next}
-use Rattle.engine.proofs.Seeing.{given_grew, given_leads}
+use Rattle.engine.proofs.Seeing.{given_come, given_grew, given_leads}
 use Rattle.engine.proofs.Waiting.{on_refusal}
-use Rattle.engine.proofs.Writing.{goes_on}
+use Rattle.run_part.proofs.Writing.{goes_on}
 use Rattle.many_run.specs.Each.{AtEach, OfEach}
-use Rattle.many_run.specs.Many.{PartGrew, PartStands}
-use Rattle.many_run.specs.Parts.{BreaksEach, ComeBehind, FedBy, FedEach, FedSome, MayTakeSome, PartBreaks, PartGoes, TakesSomeTokens, TakesTokens, TokensGiven}
-use Rattle.many_run.specs.View.{ManyView, PartView}
-use Rattle.many_run.proofs.Breaking.{breaks_behind, breaks_more, breaks_whole}
+use Rattle.many_run.specs.Many.{PartGrew}
+use Rattle.run_part.specs.Part.{PartStands, ComeBehind, MayTakeSome, PartBreaks, PartGoes, PartTakesSome, PartTakes}
+use Rattle.many_run.specs.Parts.{BreaksEach, FedBy, FedEach, FedSome, TokensGiven}
+use Rattle.many_run.specs.View.{ManyView}
+use Rattle.run_part.specs.View.{PartView}
+use Rattle.many_run.proofs.Breaking.{breaks_behind, breaks_whole}
+use Rattle.run_part.proofs.PartTaking.{breaks_more}
 use Rattle.many_run.proofs.Lists.{each_map, each_on, each_there_with, each_with}
 
 module _ {C : Type 0} (stands : C → Tree → Type 0) (lim : Limits) (b : List ℕ) (ended : Bool) (given : List Token) where
@@ -34,30 +36,30 @@ module _ {C : Type 0} (stands : C → Tree → Type 0) (lim : Limits) (b : List 
 
   module _ (old : ManyView C) (h : TokensGiven stands old lim b ended given) (said : List Said) (come : ComeBehind (map said_of given) said) where
     pub each_may : OfEach (λ p. MayTakeSome stands p said) old.parts
-    each_may i p at = record { given = map said_of given; of = h.parts i p at; come = come }
+    each_may i p at = record { ahead = 1; given = map said_of given; of = h.parts i p at; come = come }
 
     module _ (more : List Token) (all : map said_of (given ++ more) ≡ map said_of given ++ said) (r : ReaderView) (reader : Stands r lim b ended (given ++ more)) (parts : List (PartView C)) where
-      pub feeds_some : waiting old.reader ≡ more ++ waiting r → AtEach (λ p q. TakesTokens stands p q said) old.parts parts → FedSome stands old (record old { reader = r; parts = parts }) lim b ended given
+      pub feeds_some : waiting old.reader ≡ more ++ waiting r → AtEach (λ p q. PartTakes stands p q said) old.parts parts → FedSome stands old (record old { reader = r; parts = parts }) lim b ended given
       feeds_some waited takes = record {
         more = more;
         waited = waited;
         has = record {
           limits = h.limits;
           reader = reader;
-          parts = each_there_with (PartStands stands (map said_of given)) (λ p q. TakesTokens stands p q said) (PartStands stands (map said_of (given ++ more))) old.parts parts h.parts
-              (λ p q s t. subst (λ (z : List Said). PartStands stands z q) (sym all) (t (map said_of given) s come).stand) takes;
+          parts = each_there_with (PartStands stands 1 (map said_of given)) (λ p q. PartTakes stands p q said) (PartStands stands 1 (map said_of (given ++ more))) old.parts parts h.parts
+              (λ p q s t. subst (λ (z : List Said). PartStands stands 1 z q) (sym all) (t 1 (map said_of given) s come).stand) takes;
         };
-        goes = each_with (PartStands stands (map said_of given)) (λ p q. TakesTokens stands p q said) (PartGrew (λ plan. PartGoes plan (map said_of given) (map said_of (given ++ more)))) old.parts parts h.parts
-            (λ p q s t. let k = t (map said_of given) s come in record { plan = k.plan; grew = subst (λ (z : List Said). PartGoes (plan_tree p.plan) (map said_of given) z p.out q.out) (sym all) k.goes }) takes;
+        goes = each_with (PartStands stands 1 (map said_of given)) (λ p q. PartTakes stands p q said) (PartGrew (λ plan. PartGoes plan (map said_of given) (map said_of (given ++ more)))) old.parts parts h.parts
+            (λ p q s t. let k = t 1 (map said_of given) s come in record { plan = k.plan; grew = subst (λ (z : List Said). PartGoes (plan_tree p.plan) (map said_of given) z p.out q.out) (sym all) k.goes }) takes;
       }
 
       -- memory ran out at one of the parts
-      pub breaks_some : (q : ReaderView) → AtEach (λ p q. TakesSomeTokens stands p q said) old.parts parts → BreaksEach old (record old { reader = q; parts = parts }) lim b ended given
+      pub breaks_some : (q : ReaderView) → AtEach (λ p q. PartTakesSome stands p q said) old.parts parts → BreaksEach old (record old { reader = q; parts = parts }) lim b ended given
       breaks_some q takes us seen =
           let l : Leads opening (seen_tree (map said_of given ++ said)) = subst (λ (z : List Said). Leads opening (seen_tree z)) all (given_grew r lim b ended (given ++ more) reader) in
           let m : Leads (seen_tree (map said_of given ++ said)) (seen_tree us) = subst (λ (z : List Said). Leads (seen_tree z) (seen_tree us)) all (given_leads r lim b ended (given ++ more) reader us seen) in
-          each_with (PartStands stands (map said_of given)) (λ p q. TakesSomeTokens stands p q said) (PartGrew (λ plan. PartBreaks plan (map said_of given) us)) old.parts parts h.parts
-          (λ p q s t. let k = t (map said_of given) s come in record { plan = k.plan; grew = breaks_more (plan_tree p.plan) (map said_of given) (map said_of given ++ said) us p.out q.out k.breaks l m }) takes
+          each_with (PartStands stands 1 (map said_of given)) (λ p q. PartTakesSome stands p q said) (PartGrew (λ plan. PartBreaks plan (map said_of given) us)) old.parts parts h.parts
+          (λ p q s t. let k = t 1 (map said_of given) s come in record { plan = k.plan; grew = breaks_more (plan_tree p.plan) (map said_of given) (map said_of given ++ said) us p.out q.out k.breaks l m }) takes
 
   -- ---- those that are lent
 
@@ -77,12 +79,12 @@ module _ {C : Type 0} (stands : C → Tree → Type 0) (lim : Limits) (b : List 
     pub lent_may : OfEach (λ p. MayTakeSome stands p us) old.parts
     lent_may = each_may old h us us_come
 
-    pub lent_feeds : (r : ReaderView) (parts : List (PartView C)) → TakesLent old.reader r → AtEach (λ p q. TakesTokens stands p q us) old.parts parts → FedSome stands old (record old { reader = r; parts = parts }) lim b ended given
+    pub lent_feeds : (r : ReaderView) (parts : List (PartView C)) → TakesLent old.reader r → AtEach (λ p q. PartTakes stands p q us) old.parts parts → FedSome stands old (record old { reader = r; parts = parts }) lim b ended given
     lent_feeds r parts is takes =
         feeds_some old h us us_come gs all_said r (subst (λ (z : ReaderView). Stands z lim b ended (given ++ gs)) (sym is) (stands_all old.reader lim b ended given h.reader)) parts
         (waits_all old.reader ∙ ap (λ (z : ReaderView). gs ++ waiting z) (sym is)) takes
 
-    pub lent_breaks : (parts : List (PartView C)) → AtEach (λ p q. TakesSomeTokens stands p q us) old.parts parts → BreaksEach old (record old { parts = parts }) lim b ended given
+    pub lent_breaks : (parts : List (PartView C)) → AtEach (λ p q. PartTakesSome stands p q us) old.parts parts → BreaksEach old (record old { parts = parts }) lim b ended given
     lent_breaks parts takes = breaks_some old h us us_come gs all_said (behind_lent (length gs) old.reader) (stands_all old.reader lim b ended given h.reader) parts old.reader takes
 
   -- ---- one behind the other

@@ -1,6 +1,5 @@
 pub mod Walking
 pub mod Lists
-pub mod Taking
 pub mod Breaking
 pub mod Going
 pub mod Pieces

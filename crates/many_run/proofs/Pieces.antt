@@ -7,13 +7,13 @@ use Rattle.gcx_model.specs.Core.{PlanTree}
 use Rattle.gcx_model.specs.PlanView.{plan_tree}
 use Rattle.gcx_model.specs.Run.{bytes_written}
 use Rattle.gcx_model.specs.Seen.{SeenIs, seen_tree}
-use Rattle.gcx_model.specs.Tree.{Tree, Token as Said}
+use Rattle.gcx_model.specs.Tree.{Tree, TreeToken as Said}
 use Rattle.gcx_model.specs.declared.fault.DocFault.{DocFault}
 use Rattle.gcx_model.specs.declared.fault.DocFault.TheVariants.{Memory}
 use Rattle.doc_laws.proofs.Found.{found_seen}
-use Rattle.doc_reader.specs.Standing.{Answers, IsFault, IsRefused, Keeps, Stands, answer_by, said_of, waiting}
+use Rattle.doc_reader.specs.Standing.{Answers, IsFault, IsRefused, KeepsAnswer, Stands, answer_by, said_of, waiting}
 use Rattle.doc_reader.proofs.Standings.{stands_still}
-use Rattle.engine.specs.Actors.{all_of, bytes_at}
+use Rattle.run_part.specs.Actors.{all_of, bytes_at}
 use Rattle.engine.specs.Engine.{GrewBy, GrewWithin, OnRefusal}
 use Rattle.engine.proofs.Courses.{answer_of_fault, grew_none, grew_on, kept_refusal, refusal_fault, settled_by, settled_one, within_more, within_on}
 use Rattle.engine.proofs.Nothing.{none_within}
@@ -21,8 +21,10 @@ use Rattle.engine.proofs.Seeing.{all_given}
 use Rattle.engine.proofs.Waiting.{from_none, on_none, refusal_map}
 use Rattle.many_run.specs.Each.{AtEach}
 use Rattle.many_run.specs.Many.{ManyKept, ManyLost, ManyStand, ManyStandSome, PartGrew}
-use Rattle.many_run.specs.Parts.{BreaksEach, FedBy, FedWith, PartBreaks, PartGoes, TokensGiven}
-use Rattle.many_run.specs.View.{ManyView, PartView}
+use Rattle.many_run.specs.Parts.{BreaksEach, FedBy, FedWith, TokensGiven}
+use Rattle.run_part.specs.Part.{PartBreaks, PartGoes}
+use Rattle.many_run.specs.View.{ManyView}
+use Rattle.run_part.specs.View.{PartView}
 use Rattle.many_run.proofs.Lists.{each_map, each_on}
 use Rattle.many_run.proofs.Walking.{each_same}
 
@@ -68,7 +70,7 @@ module _ {C : Type 0} (stands : C → Tree → Type 0) (lim : Limits) (b : List 
   Called old new = OnRefusal new.refused (ManyLost lim old new b was c ended) (ManyKept stands lim old new b was c ended)
 
   -- the reader took what was fed, and all tokens that waited then were fed
-  pub fed_to : (old e d : ManyView C) → (s : ManyStand stands lim old b was) → e.parts ≡ old.parts → Keeps e.reader d.reader → IsFault e.reader.refused lim c ended → d.ended ≡ ended → d.bytes ≡ length c
+  pub fed_to : (old e d : ManyView C) → (s : ManyStand stands lim old b was) → e.parts ≡ old.parts → KeepsAnswer e.reader d.reader → IsFault e.reader.refused lim c ended → d.ended ≡ ended → d.bytes ≡ length c
       → FedBy stands e d lim c ended s.given → Called old d
   fed_to old e d s parts keeps fault closing bytes goes = refusal_map d.refused lost kept goes
     where

@@ -14,7 +14,7 @@ use Rattle.gcx_io.specs.Writing.{IsSomeBytes, Takes, joined}
 use Rattle.gcx_io.specs.declared.shelf.Handle.{Handle}
 use Rattle.gcx_io.proofs.Written.{is_some, joined_push}
 use Rattle.run_words.specs.Reading.{CountsFault}
-use Rattle.run_words.specs.Stops.{End, Fault, More, Stop}
+use Rattle.run_words.specs.Stops.{EndAnswered, FaultAnswered, More, Stop}
 use Rattle.many_run.specs.Files.{HandleGave, HaveOtherNames, IsNoneOf, LeavesTheRest, NamesStay, bytes_in, failures, name_of_handle, sink_at}
 use Rattle.many_run.specs.Runs.{WritesOnly}
 use Rattle.many_run.proofs.Filing.{calls_are, calls_same, name_is, names_on, names_same, telling_back}
@@ -233,7 +233,7 @@ module _ {E : Type 0} (d : ℕ) (a b c : ShelfView) (ps : List (List ℕ)) (g : 
       pushed (x ∷ xs) ps p = ap (λ (l : List Call). x ∷ l) (pushed xs ps p)
 
   -- the end
-  pub gave_end : (n : ℕ) (buf : List ℕ) → ReadsOnce {E = E} d b c (Ok n) buf → n ≡ 0 → length buf ≡ 65536 → HandleGave d a c ps End
+  pub gave_end : (n : ℕ) (buf : List ℕ) → ReadsOnce {E = E} d b c (Ok n) buf → n ≡ 0 → length buf ≡ 65536 → HandleGave d a c ps EndAnswered
   gave_end n buf more none size =
       let once : ReadsOnce {E = E} d b c (Ok 0) buf = subst (λ (k : ℕ). ReadsOnce {E = E} d b c (Ok k) buf) none more in
       let same = same_there (Ok 0) buf once in
@@ -253,7 +253,7 @@ module _ {E : Type 0} (d : ℕ) (a b c : ShelfView) (ps : List (List ℕ)) (g : 
       }
 
   -- a fault
-  pub gave_fault : (e : E) (buf : List ℕ) → ReadsOnce {E = E} d b c (Err e) buf → HandleGave d a c ps Fault
+  pub gave_fault : (e : E) (buf : List ℕ) → ReadsOnce {E = E} d b c (Err e) buf → HandleGave d a c ps FaultAnswered
   gave_fault e buf once =
       let same = same_there (Err e) buf once in
       record {

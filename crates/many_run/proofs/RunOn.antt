@@ -19,7 +19,7 @@ use Rattle.run_words.proofs.Joining.{takes_then}
 use Rattle.run_words.proofs.Sourcing.{clean_more, clean_none, on_clean}
 use Rattle.run_words.specs.Ends.{LastPiece, NoMemory, ReadFailed, RunEnd, SettlesBefore, Unread, WriteFailed, WritesAll}
 use Rattle.run_words.specs.Reading.{ReadsOn}
-use Rattle.run_words.specs.Stops.{End, Fault, IsCalm, More, Stop, is_end}
+use Rattle.run_words.specs.Stops.{EndAnswered, FaultAnswered, IsCalm, More, Stop, is_end}
 use Rattle.doc_reader.specs.Standing.{Answers, IsFault}
 use Rattle.engine.specs.Engine.{GrewBy, GrewWithin, IsTrace, OnAnswer, Settles}
 use Rattle.engine.specs.Runs.{UnlessMemory, ended_by, run_end}
@@ -31,7 +31,8 @@ use Rattle.many_run.specs.Each.{AtEach, OfEach}
 use Rattle.many_run.specs.Files.{HandleGave, HandlesApart, LeavesTheRest, sink_at}
 use Rattle.many_run.specs.Many.{ManyKept, ManyLost, ManyStand, ManyStart, PartGrew, plans_of}
 use Rattle.many_run.specs.Runs.{CountsWriteFault, EndsEach, EndsOne, ManyBetween, MayWrite, OneBetween, OnlyWritten, RanMany, EndsReading, StopsInEach, WroteEach, alone}
-use Rattle.many_run.specs.View.{ManyView, PartView}
+use Rattle.many_run.specs.View.{ManyView}
+use Rattle.run_part.specs.View.{PartView}
 use Rattle.many_run.proofs.Outputs.{none_written, one_lost, one_stops, one_whole, settled_more, stops_at, writes_all}
 use Rattle.many_run.proofs.Resting.{gave_none, gave_written, rest_on, rest_same, rest_wider}
 use Rattle.many_run.proofs.Walking.{not_there, some_is, there}
@@ -173,17 +174,17 @@ module _ {C : Type 0} (stands : C → Tree → Type 0) (lim : Limits) (doc : Han
         total_now = (h.each i p o is_p is_o).settled
 
       -- the read failed
-      pub read_fails : HandleGave doc.0 begun r h.pieces Fault → RanMany plans lim ends.ReadFault d.bytes doc outs begun r
+      pub read_fails : HandleGave doc.0 begun r h.pieces FaultAnswered → RanMany plans lim ends.ReadFault d.bytes doc outs begun r
       read_fails gave = record {
         run = record {
           pieces = h.pieces;
-          stop = Fault;
+          stop = FaultAnswered;
           at = 0;
           gave = gave;
-          reads_on = on_clean lim h.pieces Fault h.clean;
+          reads_on = on_clean lim h.pieces FaultAnswered h.clean;
           stops = (refl, no_fault);
           each = λ i o is_o plan is_plan.
-              each_plan e.parts (λ z j. (q : Handle) → slice_get outs j ≡ Some q → EndsOne (Settles (plan_tree z) lim) (IsTrace (plan_tree z) lim) lim ReadFailed h.pieces Fault 0 j (sink_at q.0 begun) (sink_at q.0 r))
+              each_plan e.parts (λ z j. (q : Handle) → slice_get outs j ≡ Some q → EndsOne (Settles (plan_tree z) lim) (IsTrace (plan_tree z) lim) lim ReadFailed h.pieces FaultAnswered 0 j (sink_at q.0 begun) (sink_at q.0 r))
               (λ j p is_p q is_q. (refl, no_fault, writes_all (plan_tree p.plan) lim b false (total j p q is_p is_q) (sink_at q.0 begun) (sink_at q.0 r) (total_now j p q is_p is_q) (took_all j p q is_p is_q)))
               i plan is_plan o is_o;
           write_faults = faults_read;
@@ -210,7 +211,7 @@ module _ {C : Type 0} (stands : C → Tree → Type 0) (lim : Limits) (doc : Han
         module _ (z : ShelfView) (f u : ManyView C) (piece : List ℕ) (ps : List (List ℕ)) (stop : Stop) (res : Result ⊤ DocFault) (end : Ended) (quiet : IsCalm stop) (gave : HandleGave doc.0 begun r ps stop)
             (reads_on : ReadsOn lim ps stop) (bytes_are : joined ps ≡ b ++ piece) (behind : (S : List ℕ → Bool → List ℕ → Type 0) (text : List ℕ) → S b false text → SettlesBefore S ps stop text)
             (call : OnAnswer res (ManyLost lim d f b false (b ++ piece) (is_end stop)) (ManyKept stands lim d f b false (b ++ piece) (is_end stop))) (exact : Answers res lim (b ++ piece) (is_end stop))
-            (whole : res ≡ Ok tt → stop ≡ End) (written : OnlyWritten f u) (counted : f.bytes ≡ length (b ++ piece)) (so : EndsEach res end f outs r z)
+            (whole : res ≡ Ok tt → stop ≡ EndAnswered) (written : OnlyWritten f u) (counted : f.bytes ≡ length (b ++ piece)) (so : EndsEach res end f outs r z)
             (late : LeavesTheRest (λ n. ⊥) outs r z) (unread : z.faults ≡ r.faults) (apart : HandlesApart r doc outs) where
           abbrev c : List ℕ
           c = b ++ piece
@@ -280,7 +281,7 @@ module _ {C : Type 0} (stands : C → Tree → Type 0) (lim : Limits) (doc : Han
 
             ends_by : WroteEach f outs r z → By lim c (is_end stop) res → end ≡ ended_by res → RanMany plans lim end u.bytes doc outs begun z
             ends_by w (ByOk ok is clean) by_end =
-                let at_end : stop ≡ End = whole ok in
+                let at_end : stop ≡ EndAnswered = whole ok in
                 let end_is : end ≡ ends.Ok = by_end ∙ is in
                 let clean_then : FaultIs lim (joined ps) true None = subst (λ (l : List ℕ). FaultIs lim l true None) (sym bytes_are) (subst (λ (y : Stop). FaultIs lim c (is_end y) None) at_end clean) in
                 ran 0 (subst (λ (y : Ended). EndsReading lim (run_end y) ps stop) (sym end_is) (at_end, clean_then))

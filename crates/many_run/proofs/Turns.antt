@@ -15,7 +15,8 @@ use Rattle.many_run.specs.Each.{AtEach}
 use Rattle.many_run.specs.Files.{LeavesTheRest}
 use Rattle.many_run.specs.Many.{ManyKept, ManyLost, ManyStand, ManyStandSome, MayFeedMany, PartGrew, plans_of}
 use Rattle.many_run.specs.Runs.{ManyGoOnFrom, MayWrite, OnlyWritten}
-use Rattle.many_run.specs.View.{ManyView, PartView}
+use Rattle.many_run.specs.View.{ManyView}
+use Rattle.run_part.specs.View.{PartView}
 use Rattle.many_run.proofs.Lists.{each_map}
 use Rattle.many_run.proofs.Pieces.{bytes_small}
 use Rattle.many_run.proofs.Writing.{apart_on}

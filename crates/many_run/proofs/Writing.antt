@@ -1,5 +1,5 @@
 -- The outputs written, each to its file, in order.
-use Rattle.std.proofs.Common.{◌≡◌, ◌≢◌, ◌∙◌, ℕ, suc, Bool, false, ◌<◌, ◌≤◌, List, [], ◌⊎◌, ⊎_elim, length, map, slice_get, Option, Some, refl, sym, ap, subst, arith}
+use Rattle.std.proofs.Common.{◌≡◌, ◌≢◌, ◌∙◌, ℕ, suc, Bool, false, ◌<◌, ◌≤◌, List, [], ⊎_elim, length, map, slice_get, Option, Some, refl, sym, ap, subst, arith}
 use Rattle.std.specs.Prelude.{IfSome}
 use Rattle.std.proofs.lemmas.List.{append-nil}
 use Rattle.gcx_base.specs.declared.limits.Limits.{Limits}
@@ -15,9 +15,11 @@ use Rattle.doc_reader.specs.Standing.{said_of}
 use Rattle.many_run.specs.Calls.{ClearsOutput}
 use Rattle.many_run.specs.Each.{OfEach}
 use Rattle.many_run.specs.Files.{HandlesApart, HaveOtherNames, LeavesTheRest, name_of_handle, sink_at}
-use Rattle.many_run.specs.Many.{ManyStand, PartStands}
+use Rattle.many_run.specs.Many.{ManyStand}
+use Rattle.run_part.specs.Part.{PartStands}
 use Rattle.many_run.specs.Runs.{ManyGoOnFrom, MayWrite, OfOutputs, OnlyWritten, StopsInEach, WritesOnly, WroteEach}
-use Rattle.many_run.specs.View.{ManyView, PartView}
+use Rattle.many_run.specs.View.{ManyView}
+use Rattle.run_part.specs.View.{PartView}
 use Rattle.many_run.proofs.Filing.{telling_back}
 use Rattle.many_run.proofs.Lists.{each_on}
 use Rattle.many_run.proofs.Resting.{rest_on, rest_same, rest_written, sink_aside}
@@ -49,7 +51,7 @@ module _ {C : Type 0} where
       none = s.none;
       parts = λ i q is_q.
           let p = there a.parts i (let l = not_there b.parts i q is_q in let n = h.each.count in omega (arith, l, n)) in
-          subst (λ (z : PartView C). PartStands stands (map said_of s.given) z) (sym (h.each.each i p.0 q p.1 is_q)) (s.parts i p.0 p.1);
+          subst (λ (z : PartView C). PartStands stands 1 (map said_of s.given) z) (sym (h.each.each i p.0 q p.1 is_q)) (s.parts i p.0 p.1);
       closing = s.closing;
       bytes = s.bytes;
       fault = s.fault;

@@ -5,7 +5,8 @@ use Rattle.gcx_model.specs.declared.fault.DocFault.{DocFault}
 use Rattle.gcx_model.specs.Tree.{Tree}
 use Rattle.doc_reader.specs.Standing.{Answers}
 use Rattle.many_run.specs.Many.{ManyKept, ManyLost, ManyStand}
-use Rattle.many_run.specs.View.{ManyView, PartView}
+use Rattle.many_run.specs.View.{ManyView}
+use Rattle.run_part.specs.View.{PartView}
 
 -- With the piece the plans stand for the bytes so far, or memory ran out on the way. `on` tells which.
 abbrev pub TakesDocPiece : {C : Type 0} → (C → Tree → Type 0) → (on : (lost kept : Type 0) → Type 0) → (old new : ManyView C) → (piece : List ℕ) → Type 0

@@ -6,7 +6,7 @@ use Rattle.gcx_io.specs.Views.{Call, Gave, Took, Denied, Failed, HandleView, She
 use Rattle.gcx_io.specs.Writing.{IsSomeBytes, joined}
 use Rattle.gcx_io.specs.declared.shelf.Handle.{Handle}
 use Rattle.run_words.specs.Reading.{CountsFault}
-use Rattle.run_words.specs.Stops.{Stop, End, last_call}
+use Rattle.run_words.specs.Stops.{Stop, EndAnswered, last_call}
 
 -- the name of the handle of this number
 abbrev pub name_of_handle : List HandleView → ℕ → Option (List ℕ)
@@ -58,7 +58,7 @@ pub record HandleGave (h : ℕ) (a b : ShelfView) (pieces : List (List ℕ)) (st
   pub some : All IsSomeBytes pieces
   pub calls : new.calls ≡ old.calls ++ map (Gave 65536) pieces ++ last_call 65536 stop
   pub told : IsTelling b.names → Consumes old.left new.left (joined pieces)
-  pub at_end : IsTelling b.names → stop ≡ End → IsAtEnd new.left
+  pub at_end : IsTelling b.names → stop ≡ EndAnswered → IsAtEnd new.left
   pub faults : CountsFault stop a.faults b.faults
 
 -- none of the handles has this number

@@ -2,26 +2,17 @@
 use Rattle.std.specs.Prelude.{◌≡◌, ℕ, Bool, false, List, [], length, map, Some, None}
 use Rattle.gcx_base.specs.declared.limits.Limits.{Limits}
 use Rattle.gcx_model.specs.declared.fault.DocFault.TheVariants.{Memory}
-use Rattle.gcx_model.specs.Tree.{Tree, Token as Said}
-use Rattle.gcx_model.specs.Core.{BodyTree, PlanTree}
-use Rattle.gcx_model.specs.Cores.{Good}
-use Rattle.gcx_model.specs.Placed.{Placed}
+use Rattle.gcx_model.specs.Tree.{Tree}
+use Rattle.gcx_model.specs.Core.{PlanTree}
 use Rattle.gcx_model.specs.PlanView.{plan_tree}
 use Rattle.gcx_model.specs.Seen.{SeenIs}
 use Rattle.gcx_model.specs.declared.plan.Plan.{Plan}
 use Rattle.doc_reader.specs.Standing.{IsFault, Stands, Token, said_of, waiting}
 use Rattle.engine.specs.Engine.{GrewBy, GrewWithin, MayLimit, OnRefusal, Settles}
-use Rattle.engine.specs.Late.{StandBehind}
 use Rattle.many_run.specs.Each.{AtEach, OfEach}
-use Rattle.many_run.specs.View.{ManyView, PartView}
-
--- it is the plan of a core
-abbrev pub IsOfCore : Plan → Type 0
-IsOfCore plan = (core : BodyTree) × Good core × Placed core (plan_tree plan)
-
--- The part stands for the tree of these tokens with every action of its plan's run taken behind each, and the counts are theirs.
-abbrev pub PartStands : {C : Type 0} → (C → Tree → Type 0) → List Said → PartView C → Type 0
-PartStands stands ts p = StandBehind stands (plan_tree p.plan) 1 p.actors ts
+use Rattle.many_run.specs.View.{ManyView}
+use Rattle.run_part.specs.View.{PartView}
+use Rattle.run_part.specs.Part.{PartStands}
 
 -- the plans of the parts
 abbrev pub plans_of : {C : Type 0} → ManyView C → List Plan
@@ -35,7 +26,7 @@ pub record ManyStand {C : Type 0} (stands : C → Tree → Type 0) (lim : Limits
   pub seen : SeenIs lim b ended (map said_of given)
   pub reader : Stands m.reader lim b ended given
   pub none : waiting m.reader ≡ []
-  pub parts : OfEach (PartStands stands (map said_of given)) m.parts
+  pub parts : OfEach (PartStands stands 1 (map said_of given)) m.parts
   pub closing : m.ended ≡ ended
   pub bytes : m.bytes ≡ length b
   pub fault : IsFault m.refused lim b ended

@@ -1,76 +1,30 @@
--- How a part goes on from some tokens to more (this project's). This follows the code: no public clause speaks of it.
-use Rattle.std.specs.Prelude.{◌≡◌, ℕ, Bool, true, List, [], ◌++◌, map}
+-- How the parts go on from some tokens to more (this project's). This follows the code: no public clause speaks of it.
+use Rattle.std.specs.Prelude.{◌≡◌, ℕ, Bool, List, [], ◌++◌, map}
 use Rattle.gcx_base.specs.declared.limits.Limits.{Limits}
-use Rattle.gcx_model.specs.Tree.{Tree, Token as Said, opening}
-use Rattle.gcx_model.specs.Core.{PlanTree}
-use Rattle.gcx_model.specs.Growth.{may_all}
+use Rattle.gcx_model.specs.Tree.{Tree, TreeToken as Said, opening}
 use Rattle.gcx_model.specs.PlanView.{plan_tree}
-use Rattle.gcx_model.specs.Seen.{SeenIs, seen_tree}
+use Rattle.gcx_model.specs.Seen.{SeenIs}
 use Rattle.gcx_model.specs.declared.plan.Plan.{Plan}
 use Rattle.doc_reader.specs.Standing.{Stands, Token, said_of, waiting}
-use Rattle.engine.specs.Actors.{Goes, all_of, bytes_at}
+use Rattle.run_part.specs.Actors.{all_of, bytes_at}
 use Rattle.engine.specs.Engine.{MayLimit, OnRefusal}
-use Rattle.engine.specs.Late.{AllCome}
 use Rattle.many_run.specs.Each.{OfEach}
-use Rattle.many_run.specs.Many.{EachGrew, PartStands}
-use Rattle.many_run.specs.View.{ManyView, PartView}
-
--- ---- a part
-
--- These tokens may come behind those, within limits.
-pub record ComeBehind (given more : List Said) : Type 0 where
-  pub may : may_all given opening ≡ true
-  pub come : AllCome (seen_tree given) more
-
--- the part stands for some tokens behind which these come
-pub record MayTakeSome {C : Type 0} (stands : C → Tree → Type 0) (p : PartView C) (more : List Said) : Type 0 where
-  pub given : List Said
-  pub of : PartStands stands given p
-  pub come : ComeBehind given more
-
--- from the first tokens to the others the output grew by what becomes settled
-abbrev pub PartGoes : PlanTree → (ts us : List Said) → (before after : List ℕ) → Type 0
-PartGoes plan ts us before after =
-    Goes plan (seen_tree ts) (all_of plan (seen_tree ts)) (seen_tree us) (all_of plan (seen_tree us)) before after
-
--- memory ran out on the way: it grew by a front of that
-pub record PartBreaks (plan : PlanTree) (ts us : List Said) (before after : List ℕ) : Type 0 where
-  pub part : List ℕ
-  pub rest : List ℕ
-  pub written : bytes_at plan (seen_tree us) (all_of plan (seen_tree us))
-      ≡ bytes_at plan (seen_tree ts) (all_of plan (seen_tree ts)) ++ (part ++ rest)
-  pub grew : after ≡ before ++ part
-
--- the part was fed these tokens
-pub record TookTokens {C : Type 0} (stands : C → Tree → Type 0) (given more : List Said) (old new : PartView C) : Type 0 where
-  pub plan : new.plan ≡ old.plan
-  pub stand : PartStands stands (given ++ more) new
-  pub goes : PartGoes (plan_tree old.plan) given (given ++ more) old.out new.out
-
--- or some of them
-pub record TookSomeTokens {C : Type 0} (given more : List Said) (old new : PartView C) : Type 0 where
-  pub plan : new.plan ≡ old.plan
-  pub breaks : PartBreaks (plan_tree old.plan) given (given ++ more) old.out new.out
-
-abbrev pub TakesTokens : {C : Type 0} → (C → Tree → Type 0) → (old new : PartView C) → List Said → Type 0
-TakesTokens stands old new more = (given : List Said) → PartStands stands given old → ComeBehind given more → TookTokens stands given more old new
-
-abbrev pub TakesSomeTokens : {C : Type 0} → (C → Tree → Type 0) → (old new : PartView C) → List Said → Type 0
-TakesSomeTokens stands old new more = (given : List Said) → PartStands stands given old → ComeBehind given more → TookSomeTokens given more old new
-
--- ---- all parts
+use Rattle.many_run.specs.Many.{EachGrew}
+use Rattle.run_part.specs.Part.{PartStands, PartGoes, PartBreaks}
+use Rattle.many_run.specs.View.{ManyView}
+use Rattle.run_part.specs.View.{PartView}
 
 -- There is a part for each plan, before any token, with what its run writes then.
 pub record BeginsParts {C : Type 0} (stands : C → Tree → Type 0) (plans : List Plan) (parts : List (PartView C)) : Type 0 where
   pub plans_are : map (λ p. p.plan) parts ≡ plans
-  pub stand : OfEach (PartStands stands []) parts
+  pub stand : OfEach (PartStands stands 1 []) parts
   pub written : OfEach (λ p. p.out ≡ bytes_at (plan_tree p.plan) opening (all_of (plan_tree p.plan) opening)) parts
 
 -- The reader was fed these bytes and gave these tokens, and the parts stand for them.
 pub record TokensGiven {C : Type 0} (stands : C → Tree → Type 0) (m : ManyView C) (lim : Limits) (b : List ℕ) (ended : Bool) (given : List Token) : Type 0 where
   pub limits : MayLimit lim
   pub reader : Stands m.reader lim b ended given
-  pub parts : OfEach (PartStands stands (map said_of given)) m.parts
+  pub parts : OfEach (PartStands stands 1 (map said_of given)) m.parts
 
 -- They stand for some tokens.
 pub record SomeTokensGiven {C : Type 0} (stands : C → Tree → Type 0) (m : ManyView C) : Type 0 where

@@ -11,9 +11,9 @@ use Rattle.gcx_model.specs.Tree.{Tree}
 use Rattle.gcx_model.specs.PlanView.{plan_tree}
 use Rattle.gcx_model.specs.declared.fault.DocFault.{DocFault}
 use Rattle.gcx_model.specs.declared.plan.Plan.{Plan}
-use Rattle.run_words.specs.Ends.{EndsRun, NoMemory, ReadFailed, Refused, RunEnd, SettlesBefore, Whole, WriteFailed}
+use Rattle.run_words.specs.Ends.{EndsRun, NoMemory, ReadFailed, Refused, RunEnd, SettlesBefore, Completed, WriteFailed}
 use Rattle.run_words.specs.Reading.{AreClean, ReadsOn}
-use Rattle.run_words.specs.Stops.{Stop, End, Fault, More, IsCalm, is_end}
+use Rattle.run_words.specs.Stops.{Stop, EndAnswered, FaultAnswered, More, IsCalm, is_end}
 use Rattle.run_words.specs.Writing.{Sinks}
 use Rattle.engine.specs.Engine.{IsTrace, Settles}
 use Rattle.engine.specs.Runs.{UnlessMemory, ended_by, run_end}
@@ -22,7 +22,8 @@ use Rattle.engine.specs.declared.report.Ended.TheVariants as ends
 use Rattle.many_run.specs.Each.{AtEach}
 use Rattle.many_run.specs.Files.{HandlesApart, HandleGave, LeavesTheRest, NamesStay, name_of_handle, sink_at}
 use Rattle.many_run.specs.Many.{ManyStand, plans_of}
-use Rattle.many_run.specs.View.{ManyView, PartView}
+use Rattle.many_run.specs.View.{ManyView}
+use Rattle.run_part.specs.View.{PartView}
 
 -- an output beside a trace to which nothing goes
 abbrev pub alone : SinkView → Sinks
@@ -42,7 +43,7 @@ pub record StopsInOrder (W : List ℕ → Bool → List ℕ → Type 0) (pieces 
 
 -- What the end of a run says of the output of number i: as of a run of its plan by itself. `W`, `T` as in `EndsRun`.
 abbrev pub EndsOne : (W T : List ℕ → Bool → List ℕ → Type 0) → Limits → RunEnd → List (List ℕ) → Stop → (at i : ℕ) → (a b : SinkView) → Type 0
-EndsOne W T lim Whole pieces stop at i a b = EndsRun W T lim false Whole pieces stop (alone a) (alone b)
+EndsOne W T lim Completed pieces stop at i a b = EndsRun W T lim false Completed pieces stop (alone a) (alone b)
 EndsOne W T lim (Refused f) pieces stop at i a b = EndsRun W T lim false (Refused f) pieces stop (alone a) (alone b)
 EndsOne W T lim ReadFailed pieces stop at i a b = EndsRun W T lim false ReadFailed pieces stop (alone a) (alone b)
 EndsOne W T lim WriteFailed pieces stop at i a b = StopsInOrder W pieces stop at i a b
@@ -50,7 +51,7 @@ EndsOne W T lim NoMemory pieces stop at i a b = EndsRun W T lim false NoMemory p
 
 -- a write failed, of the output of this number, or none did
 abbrev pub CountsWriteFault : RunEnd → (at outs before after : ℕ) → Type 0
-CountsWriteFault Whole at outs before after = after ≡ before
+CountsWriteFault Completed at outs before after = after ≡ before
 CountsWriteFault (Refused f) at outs before after = after ≡ before
 CountsWriteFault ReadFailed at outs before after = after ≡ before
 CountsWriteFault WriteFailed at outs before after = (at < outs) × Rose before after
@@ -58,9 +59,9 @@ CountsWriteFault NoMemory at outs before after = after ≡ before
 
 -- what the end of a run says of the bytes, and of how the reading stopped
 abbrev pub EndsReading : Limits → RunEnd → List (List ℕ) → Stop → Type 0
-EndsReading lim Whole pieces stop = (stop ≡ End) × FaultIs lim (joined pieces) true None
+EndsReading lim Completed pieces stop = (stop ≡ EndAnswered) × FaultIs lim (joined pieces) true None
 EndsReading lim (Refused f) pieces stop = IsCalm stop × FaultIs lim (joined pieces) (is_end stop) (Some f)
-EndsReading lim ReadFailed pieces stop = (stop ≡ Fault) × FaultIs lim (joined pieces) false None
+EndsReading lim ReadFailed pieces stop = (stop ≡ FaultAnswered) × FaultIs lim (joined pieces) false None
 EndsReading lim WriteFailed pieces stop = IsCalm stop
 EndsReading lim NoMemory pieces stop = IsCalm stop
 

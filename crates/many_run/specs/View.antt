@@ -1,15 +1,8 @@
 -- What contracts see of several plans over one reader (this project's).
 use Rattle.std.specs.Prelude.{ℕ, Bool, List, Option}
 use Rattle.gcx_model.specs.declared.fault.DocFault.{DocFault}
-use Rattle.gcx_model.specs.declared.plan.Plan.{Plan}
 use Rattle.doc_reader.specs.Standing.{ReaderView}
-use Rattle.engine.specs.View.{ActorsView}
-
--- a plan, its actors, and the output that isn't written yet
-pub record PartView (C : Type 0) : Type 0 where
-  pub plan : Plan
-  pub actors : ActorsView C
-  pub out : List ℕ
+use Rattle.run_part.specs.View.{PartView}
 
 -- the reader, a part for each plan, how many bytes were fed, what is refused, and whether the input ended
 pub record ManyView (C : Type 0) : Type 0 where

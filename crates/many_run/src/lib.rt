@@ -2,7 +2,6 @@
 #![tactic(auto)]
 
 mod many;
-mod part;
 mod running;
 
 pub use many::Many;

@@ -4,17 +4,18 @@ ghost use Rattle.std.specs.FinMap as map_of;
 ghost use Rattle.gcx_base.specs.declared.limits.Limits.{Limits};
 ghost use Rattle.gcx_model.specs.Tree.{opening};
 ghost use Rattle.gcx_model.specs.declared.fault.DocFault.{DocFault};
-ghost use Rattle.doc_reader.specs.Standing.{AllLieWithin, Keeps, answer_by, answer_of, waiting};
+ghost use Rattle.doc_reader.specs.Standing.{AllLieWithin, KeepsAnswer, answer_by, answer_of, waiting};
 ghost use Rattle.engine.specs.Calls.{TakesLent};
 ghost use Rattle.engine.specs.Engine.{OnAnswer, OnRefusal};
 ghost use Rattle.engine.specs.Going.{lacking};
-ghost use Rattle.engine.specs.Late.{said_lent};
+ghost use Rattle.run_part.specs.Late.{said_lent};
 ghost use Rattle.many_run.specs.Calls.{ClearsOutput, JudgesDocEnd, JudgesDocPiece, TakesDocEnd, TakesDocPiece};
 ghost use Rattle.many_run.specs.Each.{AtEach, OfEach};
-ghost use Rattle.many_run.specs.Many.{IsOfCore, ManyStand, ManyStandSome, ManyStart, MayFeedMany, NoneHeld};
-ghost use Rattle.many_run.specs.Parts.{BeginsParts, BreaksEach, FedBy, FedSome, MayTakeSome, OfGiven, SomeTokensGiven, TakesTokens, TakesSomeTokens};
+ghost use Rattle.run_part.specs.Part.{IsOfCore};
+ghost use Rattle.many_run.specs.Many.{ManyStand, ManyStandSome, ManyStart, MayFeedMany, NoneHeld};
+ghost use Rattle.many_run.specs.Parts.{BeginsParts, BreaksEach, FedBy, FedSome, OfGiven, SomeTokensGiven};
+ghost use Rattle.run_part.specs.Part.{MayTakeSome, PartTakes, PartTakesSome};
 
-use crate::part::Part;
 use buf_tree::Row;
 use cond_eval::Conds;
 use doc_reader::{Lent, LentReader};
@@ -22,6 +23,8 @@ use engine::{cut, is_left, lacking, refusal};
 use gcx_base::{Limits, Memory};
 use gcx_model::{DocFault, Plan};
 use node_store::NodeStore;
+use outside::{Nowhere, TakesTokens};
+use run_part::{NoLines, Part};
 use std::alloc::Global;
 use std::marker::Model;
 
@@ -30,7 +33,7 @@ use std::marker::Model;
 pub struct Many<'p, N: NodeStore<Row>, C: Conds> {
     reader: LentReader,
     /// One for each plan, in order.
-    parts: Vec<Part<'p, N, C>>,
+    parts: Vec<Part<'p, N, C, NoLines>>,
     /// How many bytes were fed.
     bytes: u64,
     /// Whether `finish` was called.
@@ -99,7 +102,7 @@ fn parts_of<'p, N: NodeStore<Row> + Drop, C: Conds + Drop>(
     plans: &'p [Plan],
     nodes: Vec<N>,
     conds: Vec<C>,
-) -> Result<Vec<Part<'p, N, C>>, Memory>
+) -> Result<Vec<Part<'p, N, C, NoLines>>, Memory>
     requires placed { OfEach IsOfCore plans.now }
     requires stores { length nodes.items ≡ length plans.now }
     requires truths { length conds.items ≡ length plans.now }
@@ -117,7 +120,7 @@ fn parts_of<'p, N: NodeStore<Row> + Drop, C: Conds + Drop>(
         let Some(conds) = truths.next() else {
             unreachable!();
         };
-        parts.push(Part::new(alloc, plan, nodes, conds)?)?;
+        parts.push(Part::new(alloc, plan, nodes, conds, 1, NoLines { place: 0 })?)?;
     }
     Ok(parts)
 }
@@ -237,7 +240,7 @@ impl<'p, N: NodeStore<Row>, C: Conds> Many<'p, N, C> {
         requires read { read ≡ answer_of self.old.reader }
         requires parts { SomeTokensGiven C.stands self.old }
         ensures goes { OfGiven C.stands self.old (FedBy C.stands self.old self.new) }
-        ensures keeps { Keeps self.old.reader self.new.reader }
+        ensures keeps { KeepsAnswer self.old.reader self.new.reader }
         ensures bytes { self.new.bytes ≡ self.old.bytes }
         ensures closing { self.new.ended ≡ self.old.ended }
     {
@@ -252,7 +255,7 @@ impl<'p, N: NodeStore<Row>, C: Conds> Many<'p, N, C> {
         ensures feeds { OnOk result (OfGiven C.stands self.old (FedSome C.stands self.old self.new)) }
         ensures none { OnOk result (waiting self.new.reader ≡ []) }
         ensures breaks { OnErr result (OfGiven C.stands self.old (BreaksEach self.old self.new)) }
-        ensures keeps { Keeps self.old.reader self.new.reader }
+        ensures keeps { KeepsAnswer self.old.reader self.new.reader }
         ensures rest { self.new ≡ record self.old { reader = self.new.reader; parts = self.new.parts } }
     {
         self.feed_lent(alloc)?;
@@ -265,7 +268,7 @@ impl<'p, N: NodeStore<Row>, C: Conds> Many<'p, N, C> {
         ensures feeds { OnOk result (OfGiven C.stands self.old (FedSome C.stands self.old self.new)) }
         ensures takes { OnOk result (TakesLent self.old.reader self.new.reader) }
         ensures breaks { OnErr result (OfGiven C.stands self.old (BreaksEach self.old self.new)) }
-        ensures keeps { Keeps self.old.reader self.new.reader }
+        ensures keeps { KeepsAnswer self.old.reader self.new.reader }
         ensures rest { self.new ≡ record self.old { reader = self.new.reader; parts = self.new.parts } }
     {
         let (tokens, bytes) = self.reader.lent();
@@ -310,20 +313,21 @@ impl<'p, N: NodeStore<Row>, C: Conds> Many<'p, N, C> {
 /// Feeds the tokens, whose names and texts lie in the bytes, to every plan, to one plan after the other.
 fn feed_parts<N: NodeStore<Row>, C: Conds>(
     alloc: Global,
-    parts: &mut Vec<Part<'_, N, C>>,
+    parts: &mut Vec<Part<'_, N, C, NoLines>>,
     tokens: &[Lent],
     bytes: &[u8],
 ) -> Result<(), Memory>
     requires within { AllLieWithin 0 (length bytes.now) bytes.now tokens.now }
     requires may { OfEach (λ p. MayTakeSome C.stands p (said_lent bytes.now tokens.now)) parts.old.items }
     ensures feeds { OnOk result
-        (AtEach (λ p q. TakesTokens C.stands p q (said_lent bytes.now tokens.now)) parts.old.items parts.new.items) }
+        (AtEach (λ p q. PartTakes C.stands p q (said_lent bytes.now tokens.now)) parts.old.items parts.new.items) }
     ensures breaks { OnErr result
-        (AtEach (λ p q. TakesSomeTokens C.stands p q (said_lent bytes.now tokens.now)) parts.old.items parts.new.items) }
+        (AtEach (λ p q. PartTakesSome C.stands p q (said_lent bytes.now tokens.now)) parts.old.items parts.new.items) }
 {
+    let mut to = Nowhere::new(alloc);
     let mut index = 0;
     'parts: while index < parts.len() {
-        parts[index].take_all(alloc, tokens, bytes)?;
+        parts[index].take(alloc, tokens, bytes, &mut to)?;
         index += 1;
     }
     Ok(())

@@ -6,10 +6,11 @@ ghost use Rattle.gcx_io.specs.Causes.{Rose};
 ghost use Rattle.gcx_io.specs.Writing.{Owes, Takes};
 ghost use Rattle.gcx_model.specs.Tree.{opening};
 ghost use Rattle.gcx_model.specs.declared.fault.DocFault.{DocFault};
-ghost use Rattle.gcx_model.specs.declared.fault.DocFault.TheVariants.{Memory as Lack};
+ghost use Rattle.gcx_model.specs.declared.fault.DocFault.TheVariants.{Memory as no_memory};
 ghost use Rattle.many_run.specs.Each.{OfEach};
 ghost use Rattle.many_run.specs.Files.{HandlesApart, LeavesTheRest, sink_at};
-ghost use Rattle.many_run.specs.Many.{IsOfCore, ManyStart, plans_of};
+ghost use Rattle.run_part.specs.Part.{IsOfCore};
+ghost use Rattle.many_run.specs.Many.{ManyStart, plans_of};
 ghost use Rattle.many_run.specs.Runs.{EndsEach, ManyGoOnFrom, ManyTurnsFrom, MayWrite, OnlyWritten, RanMany, StopsInEach, WritesOnly, WroteEach};
 
 use crate::many::Many;
@@ -112,7 +113,7 @@ fn turn<N: NodeStore<Row>, C: Conds, F: Shelf>(
         ManyGoOnFrom C.stands lim many.old → ManyGoOnFrom C.stands lim many.new }
     ensures plans { plans_of many.new ≡ plans_of many.old }
     ensures fewer { result ≡ None → many.old.bytes < many.new.bytes }
-    ensures memory { (f : DocFault) → result ≡ Some (Ended.Refused f) → f ≡ Lack → ⊥ }
+    ensures memory { (f : DocFault) → result ≡ Some (Ended.Refused f) → f ≡ no_memory → ⊥ }
 {
     if write_waiting(many, files, outs).is_err() {
         return Some(Ended::WriteFault);
@@ -142,7 +143,7 @@ fn run<N: NodeStore<Row>, C: Conds, F: Shelf>(
     requires starts { (lim : Limits) × ManyStart C.stands (plans_of many.old) lim many.old }
     ensures ran { (lim : Limits) → ManyStart C.stands (plans_of many.old) lim many.old →
         RanMany (plans_of many.old) lim result many.new.bytes doc outs.now (F.seen files.old) (F.seen files.new) }
-    ensures memory { (f : DocFault) → result ≡ Ended.Refused f → f ≡ Lack → ⊥ }
+    ensures memory { (f : DocFault) → result ≡ Ended.Refused f → f ≡ no_memory → ⊥ }
 {
     let mut buf = [0u8; PIECE];
     'reading: loop {
@@ -175,7 +176,7 @@ pub fn run_many<N: NodeStore<Row> + Drop, C: Conds + Drop, F: Shelf>(
     requires bytes { limits.bytes ≤ 1099511627776 }
     ensures ran { RanMany plans.now limits result.ended result.taken_bytes doc outs.now
         (F.seen files.old) (F.seen files.new) }
-    ensures memory { (f : DocFault) → result.ended ≡ Ended.Refused f → f ≡ Lack → ⊥ }
+    ensures memory { (f : DocFault) → result.ended ≡ Ended.Refused f → f ≡ no_memory → ⊥ }
 {
     let Ok(mut many) = Many::new(alloc, plans, nodes, conds, limits) else {
         return ManyReport {

@@ -3,7 +3,7 @@ use Rattle.std.proofs.Common.{◌≡◌, ℕ, ◌<◌, true, List, [], ◌∷◌
 use Rattle.std.proofs.lemmas.Option.{slice_get_within}
 use Rattle.gcx_base.specs.declared.kind.Kind.{Kind}
 use Rattle.gcx_base.specs.declared.steps.Step.{Step}
-use Rattle.gcx_model.specs.Tree.{Node, Under, serial_of, Tree, Token, grow}
+use Rattle.gcx_model.specs.Tree.{Node, Under, serial_of, Tree, TreeToken, grow}
 use Rattle.gcx_model.specs.Paths.{hits, first}
 use Rattle.gcx_model.specs.Nodes.{Grown}
 use Rattle.gcx_model.specs.Core.{First, PlanTree, RoleRowTree}
@@ -39,7 +39,7 @@ in_open [] x i = absurd i
 in_open (q ∷ roles) x (inl e) = inl (ap (λ (z : Context). z.role) e)
 in_open (q ∷ roles) x (inr i) = inr (in_open roles x i)
 
-module _ (plan : PlanTree) (tree : PathTree) (A : IsPathTree plan tree) (P : Tree) (w : Grown P) (t : Token) (n : Node) (o : Opened P t n) where
+module _ (plan : PlanTree) (tree : PathTree) (A : IsPathTree plan tree) (P : Tree) (w : Grown P) (t : TreeToken) (n : Node) (o : Opened P t n) where
   abbrev Q : Tree
   Q = grow t P
 
@@ -94,7 +94,7 @@ pub leads_from : (tree : List PathState) (above : StateView) (m : NodeMarks) (fr
 leads_from tree above m frame kind x e moves = subst (λ (z : FrameView). LeadsFrom tree z kind x) (sym e) (record { active = moves.active; gathers = moves.gathers })
 
 -- the frame of a new child of a, whose frame tells what leads below it
-module _ (plan : PlanTree) (tree : PathTree) (A : IsPathTree plan tree) (P : Tree) (w : Grown P) (t : Token) (a : Node) (s : ℕ) (k : Kind) (o : Opened P t (Under a s k)) (u : Grown (grow t P)) (some : 0 < s) (frame : FrameView) (R : IsFrame plan P tree.states.items A.path frame a) where
+module _ (plan : PlanTree) (tree : PathTree) (A : IsPathTree plan tree) (P : Tree) (w : Grown P) (t : TreeToken) (a : Node) (s : ℕ) (k : Kind) (o : Opened P t (Under a s k)) (u : Grown (grow t P)) (some : 0 < s) (frame : FrameView) (R : IsFrame plan P tree.states.items A.path frame a) where
   -- which paths lead to it
   pub leading_are : (leading : List ℕ) → Holds leading (ActiveBelow tree.states.items frame.active frame.pending k) → (c : ℕ)
       → (In c leading → (c < length tree.states.items) × (hits 0 (A.path c) (Under a s k) ≡ true)) × ((c < length tree.states.items) × (hits 0 (A.path c) (Under a s k) ≡ true) → In c leading)

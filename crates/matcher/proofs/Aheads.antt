@@ -9,7 +9,7 @@ use Rattle.gcx_model.specs.Tree.{Node, serial_of, above, Tree}
 use Rattle.gcx_model.specs.Paths.{hits, first, matches}
 use Rattle.gcx_model.specs.Nodes.{Grown}
 use Rattle.gcx_model.specs.Growth.{level}
-use Rattle.gcx_model.specs.Core.{RoleKind, Own, First, Whole, OffTree, RoleRowTree, PlanTree}
+use Rattle.gcx_model.specs.Core.{RoleTarget, Own, First, Whole, OffTree, RoleRowTree, PlanTree}
 use Rattle.gcx_model.specs.ItemView.{role_kind}
 use Rattle.gcx_model.specs.Held.{path_of, gives, given_row, on_row, given, reaches}
 use Rattle.gcx_model.specs.Placed.{row_at}
@@ -42,13 +42,13 @@ le_or zero y = inl (omega arith)
 le_or (suc x) zero = inr (omega arith)
 le_or (suc x) (suc y) = elim (le_or x y) [ inl h ↦ inl (omega arith) | inr h ↦ inr (omega arith) ]
 
-own_tail : (k : RoleKind) (tail : List Step) → kind_with k tail ≡ Own → tail_with k tail ≡ []
+own_tail : (k : RoleTarget) (tail : List Step) → kind_with k tail ≡ Own → tail_with k tail ≡ []
 own_tail Own tail e = refl
 own_tail First [] e = refl
 own_tail First (s ∷ tail) e = absurd (cc)
 own_tail Whole tail e = absurd (cc)
 
-first_tail : (k : RoleKind) (tail : List Step) → kind_with k tail ≡ First → tail_with k tail ≡ tail
+first_tail : (k : RoleTarget) (tail : List Step) → kind_with k tail ≡ First → tail_with k tail ≡ tail
 first_tail Own tail e = absurd (cc)
 first_tail First tail e = refl
 first_tail Whole tail e = absurd (cc)
@@ -72,7 +72,7 @@ innermost_same P false a b h k = let e : Some a ≡ Some b = sym h ∙ k in cc
 innermost_same P true a b h k = last_same h.3 k.3 a b (sym h.6 ∙ k.6)
 
 -- a node above n at the level u that the path leads to, and from which n has the role
-pub record IsVar (P : Tree) (n : Node) (path tail : List Step) (k : RoleKind) (u : ℕ) : Type 0 where
+pub record IsVar (P : Tree) (n : Node) (path tail : List Step) (k : RoleTarget) (u : ℕ) : Type 0 where
   pub node : Node
   pub over : In node (above n)
   pub at : level node ≡ u
@@ -158,7 +158,7 @@ module _ (m : MatcherView) (past : Past) (text : Bool) (s : MatcherAt m past tex
 
   -- a role and its way
   module _ (r : ℕ) (rw : RoleRowTree) (at : row_at past.plan.roles r ≡ Some rw) (wy : Way) (is : IsWay past.plan s.tree.path (length m.tree.states.items) wy rw) where
-    abbrev Var : RoleKind → ℕ → Type 0
+    abbrev Var : RoleTarget → ℕ → Type 0
     Var k u = IsVar past.tree s.here (path_of past.plan rw.var) rw.tail k u
 
     own_path : kind_with rw.kind rw.tail ≡ Own → s.tree.path wy.end ≡ path_of past.plan rw.var
@@ -232,7 +232,7 @@ module _ (m : MatcherView) (past : Past) (text : Bool) (s : MatcherAt m past tex
         )
 
     -- The levels of the variable, from which the innermost node has the role.
-    pub vars_are : (k : RoleKind) → kind_with rw.kind rw.tail ≡ k → (T V : List ℕ) → Holds T (Target k m r wy.end) → AreVars k m wy T V → ((u : ℕ) → In u V → Var k u) × ((u : ℕ) → Var k u → In u V)
+    pub vars_are : (k : RoleTarget) → kind_with rw.kind rw.tail ≡ k → (T V : List ℕ) → Holds T (Target k m r wy.end) → AreVars k m wy T V → ((u : ℕ) → In u V → Var k u) × ((u : ℕ) → Var k u → In u V)
     vars_are Own e T V h x = (
       (λ u j. own_var e u ((h.has u).0 (subst (λ (z : List ℕ). In u z) x j))),
       (λ u v. subst (λ (z : List ℕ). In u z) (sym x) ((h.has u).1 (var_own e u v))),
@@ -257,36 +257,36 @@ module _ (m : MatcherView) (past : Past) (text : Bool) (s : MatcherAt m past tex
     given_is = ap (on_row (given_row (path_of past.plan) past.tree s.here)) at
 
     -- where the innermost node has the role, there is a level from which it has it, and else there is none
-    pub given_target : (k : RoleKind) → kind_with rw.kind rw.tail ≡ k → (T : List ℕ) → Holds T (Target k m r wy.end) → given past.plan past.tree s.here r ≡ true → T ≡ [] → ⊥
+    pub given_target : (k : RoleTarget) → kind_with rw.kind rw.tail ≡ k → (T : List ℕ) → Holds T (Target k m r wy.end) → given past.plan past.tree s.here r ≡ true → T ≡ [] → ⊥
     given_target k e T h g none =
         let v = gives_to past.tree w s.here i 0 (path_of past.plan rw.var) rw.tail rw.kind (sym given_is ∙ g) in
-        go k e h v.0 v.1 v.2 (subst (λ (z : RoleKind). Ends z past.tree rw.tail s.here v.0) e v.3)
+        go k e h v.0 v.1 v.2 (subst (λ (z : RoleTarget). Ends z past.tree rw.tail s.here v.0) e v.3)
       where
         out : (u : ℕ) → In u T → ⊥
         out u j = subst (λ (z : List ℕ). In u z) none j
 
-        go : (k : RoleKind) → kind_with rw.kind rw.tail ≡ k → Holds T (Target k m r wy.end) → (v : Node) → In v (above s.here) → hits 0 (path_of past.plan rw.var) v ≡ true → Ends k past.tree rw.tail s.here v → ⊥
+        go : (k : RoleTarget) → kind_with rw.kind rw.tail ≡ k → Holds T (Target k m r wy.end) → (v : Node) → In v (above s.here) → hits 0 (path_of past.plan rw.var) v ≡ true → Ends k past.tree rw.tail s.here v → ⊥
         go Own e h v o x y = out (level v) ((h.has (level v)).1 (var_own e (level v) (record { node = v; over = o; at = refl; hit = x; ends = y })))
         go First e h v o x y = out (level v) ((h.has (level v)).1 (var_first e (level v) (record { node = v; over = o; at = refl; hit = x; ends = y })))
         go Whole e h v o x y = out (level y.0) ((h.has (level y.0)).1 (whole_target e y.0 y.1 (hits-append past.tree w 0 (path_of past.plan rw.var) rw.tail v y.0 (above_in past.tree w s.here v i o) (above_in past.tree w s.here y.0 i y.1) x y.2)))
 
-    pub target_given : (k : RoleKind) → kind_with rw.kind rw.tail ≡ k → (u : ℕ) → Target k m r wy.end u → given past.plan past.tree s.here r ≡ true
+    pub target_given : (k : RoleTarget) → kind_with rw.kind rw.tail ≡ k → (u : ℕ) → Target k m r wy.end u → given past.plan past.tree s.here r ≡ true
     target_given k e u t = given_is ∙ go k e t
       where
-        by_var : (k : RoleKind) → kind_with rw.kind rw.tail ≡ k → Var k u → gives past.tree 0 (path_of past.plan rw.var) rw.tail rw.kind s.here ≡ true
-        by_var k e v = gives_from past.tree w s.here i 0 (path_of past.plan rw.var) rw.tail rw.kind v.node v.over v.hit (subst (λ (z : RoleKind). Ends z past.tree rw.tail s.here v.node) (sym e) v.ends)
+        by_var : (k : RoleTarget) → kind_with rw.kind rw.tail ≡ k → Var k u → gives past.tree 0 (path_of past.plan rw.var) rw.tail rw.kind s.here ≡ true
+        by_var k e v = gives_from past.tree w s.here i 0 (path_of past.plan rw.var) rw.tail rw.kind v.node v.over v.hit (subst (λ (z : RoleTarget). Ends z past.tree rw.tail s.here v.node) (sym e) v.ends)
 
-        go : (k : RoleKind) → kind_with rw.kind rw.tail ≡ k → Target k m r wy.end u → gives past.tree 0 (path_of past.plan rw.var) rw.tail rw.kind s.here ≡ true
+        go : (k : RoleTarget) → kind_with rw.kind rw.tail ≡ k → Target k m r wy.end u → gives past.tree 0 (path_of past.plan rw.var) rw.tail rw.kind s.here ≡ true
         go Own e t = by_var Own e (own_var e u t)
         go First e t = by_var First e (first_var u t)
         go Whole e t =
             let a = hit_node wy.end u t.1 in
-            subst (λ (z : RoleKind). gives past.tree 0 (path_of past.plan rw.var) rw.tail z s.here ≡ true) (sym (kind_whole rw.kind rw.tail e))
+            subst (λ (z : RoleTarget). gives past.tree 0 (path_of past.plan rw.var) rw.tail z s.here ≡ true) (sym (kind_whole rw.kind rw.tail e))
             (any_from (hits 0 (path_of past.plan rw.var ++ rw.tail)) a.0 (above s.here) a.1 (subst (λ (z : List Step). hits 0 z a.0 ≡ true) (whole_path e) a.3))
 
     -- The levels of the bases, from which the statement of the role reaches the innermost node.
     module _ (o : OffTree) (told_o : Told past.plan o) (row : told_o.row ≡ rw) (T L : List ℕ) (h : Holds T (Target (role_kind wy.kind) m r wy.end)) (b : AreBases m wy (length o.rel) T L) where
-      abbrev kind : RoleKind
+      abbrev kind : RoleTarget
       kind = role_kind wy.kind
 
       k_is : kind_with rw.kind rw.tail ≡ role_kind wy.kind
@@ -318,7 +318,7 @@ module _ (m : MatcherView) (past : Past) (text : Bool) (s : MatcherAt m past tex
             over = q.over;
             at = q.at;
             hit = q.hit;
-            reached = reach_by q.node ∙ gives_from past.tree w s.here i (serial_of q.node) o.rel rw.tail rw.kind q.target q.below q.leads (subst (λ (z : RoleKind). Ends z past.tree rw.tail s.here q.target) (sym k_is) e);
+            reached = reach_by q.node ∙ gives_from past.tree w s.here i (serial_of q.node) o.rel rw.tail rw.kind q.target q.below q.leads (subst (λ (z : RoleTarget). Ends z past.tree rw.tail s.here q.target) (sym k_is) e);
           }
 
       pub of_base : (k : Node) → In k past.tree.nodes → hits 0 (path_of past.plan o.base) k ≡ true → reaches past.tree o k s.here ≡ true → In k (above s.here) × In (level k) L
@@ -327,5 +327,5 @@ module _ (m : MatcherView) (past : Past) (text : Bool) (s : MatcherAt m past tex
           let iv = above_in past.tree w s.here v.0 i v.1 in
           let up : In k (above s.here) = above_trans k v.0 s.here (hits_above past.tree w k o.rel v.0 ik iv v.2) v.1 in
           let hv : hits 0 (path_of past.plan rw.var) v.0 ≡ true = subst (λ (z : List Step). hits 0 z v.0 ≡ true) (sym var_path ∙ is.var) (hits-append past.tree w 0 (path_of past.plan o.base) o.rel k v.0 ik iv hk v.2) in
-          let x = vars.1 (level v.0) (record { node = v.0; over = v.1; at = refl; hit = hv; ends = subst (λ (z : RoleKind). Ends z past.tree rw.tail s.here v.0) k_is v.3 }) in
+          let x = vars.1 (level v.0) (record { node = v.0; over = v.1; at = refl; hit = hv; ends = subst (λ (z : RoleTarget). Ends z past.tree rw.tail s.here v.0) k_is v.3 }) in
           (up, from_base.1 (level k) (record { node = k; over = up; at = refl; hit = hk; target = v.0; below = v.1; reached = x; leads = v.2 }))

@@ -12,7 +12,7 @@ use Rattle.gcx_base.specs.declared.steps.Step.{Step}
 use Rattle.gcx_model.specs.Tree.{Node, Root, serial_of, above, opening, Tree}
 use Rattle.gcx_base.specs.Tests.{passes}
 use Rattle.gcx_model.specs.Paths.{lies, hits, any, head, first, matches}
-use Rattle.gcx_model.specs.Core.{RoleKind, Own, First, Whole, BodyTree, RoleRowTree, PlanTree}
+use Rattle.gcx_model.specs.Core.{RoleTarget, Own, First, Whole, BodyTree, RoleRowTree, PlanTree}
 use Rattle.gcx_model.specs.Cores.{Good}
 use Rattle.gcx_model.specs.Placed.{Placed, row_at}
 use Rattle.gcx_model.specs.Held.{path_of, roles_given}
@@ -82,7 +82,7 @@ head_none : (p : Node → Bool) → p Root ≡ false → head (filter p (Root �
 head_none p e = rw e refl
 
 -- the document node isn't the first match of a tail
-no_first : (kind : RoleKind) (tail : List Step) → kind_with kind tail ≡ First → first opening 0 tail ≡ None
+no_first : (kind : RoleTarget) (tail : List Step) → kind_with kind tail ≡ First → first opening 0 tail ≡ None
 no_first Own tail e = absurd (cc)
 no_first First [] e = absurd (cc)
 no_first First (s ∷ tail) e = head_none (hits 0 (s ∷ tail)) (step_none 0 s tail)
@@ -94,13 +94,13 @@ never_found plan P f i =
     let o = i.is in
     go o.row.kind o.row.tail o.role.same (serial_of i.context) o.is
   where
-    go : (kind : RoleKind) (tail : List Step) → kind_with kind tail ≡ First → (k : ℕ) → first P k tail ≡ Some Root → ⊥
+    go : (kind : RoleTarget) (tail : List Step) → kind_with kind tail ≡ First → (k : ℕ) → first P k tail ≡ Some Root → ⊥
     go Own tail e k h = absurd (cc)
     go First [] e k h = absurd (cc)
     go First (s ∷ tail) e k h = no_step k s tail (Matches-in P k (s ∷ tail) Root (head_in (matches P k (s ∷ tail)) Root h)).1
     go Whole tail e k h = absurd (cc)
 
-whole_tail : (kind : RoleKind) (tail : List Step) → kind_with kind tail ≡ Whole → tail_with kind tail ≡ tail
+whole_tail : (kind : RoleTarget) (tail : List Step) → kind_with kind tail ≡ Whole → tail_with kind tail ≡ tail
 whole_tail Own tail e = absurd (cc)
 whole_tail First tail e = refl
 whole_tail Whole tail e = refl

@@ -6,7 +6,7 @@ use Rattle.std.proofs.lemmas.Option.{slice_get_within}
 use Rattle.gcx_base.specs.declared.kind.Kind.{Kind}
 use Rattle.gcx_base.specs.declared.kind.Kind.TheVariants.{Document, Element, Text}
 use Rattle.gcx_base.specs.declared.steps.Step.{Step}
-use Rattle.gcx_model.specs.Tree.{Node, Under, serial_of, above, Tree, Token, grow}
+use Rattle.gcx_model.specs.Tree.{Node, Under, serial_of, above, Tree, TreeToken, grow}
 use Rattle.gcx_base.specs.Tests.{passes}
 use Rattle.gcx_model.specs.Paths.{hits}
 use Rattle.gcx_model.specs.Nodes.{Grown}
@@ -84,7 +84,7 @@ module _ (m : MatcherView) (past : Past) (kind : Kind) (G : Goes m past kind) wh
   abbrev P : Tree
   P = past.tree
 
-  abbrev t : Token
+  abbrev t : TreeToken
   t = token_for kind
 
   abbrev Q : Tree

@@ -7,7 +7,7 @@ use Rattle.gcx_base.specs.Kinds.{is_text}
 use Rattle.gcx_base.specs.declared.ids.Role.{Role}
 use Rattle.gcx_base.specs.declared.kind.Kind.{Kind}
 use Rattle.gcx_base.specs.declared.steps.Step.{Step}
-use Rattle.gcx_model.specs.Tree.{Node, Under, above, Tree, Token, grow}
+use Rattle.gcx_model.specs.Tree.{Node, Under, above, Tree, TreeToken, grow}
 use Rattle.gcx_model.specs.Paths.{hits}
 use Rattle.gcx_model.specs.Nodes.{Grown}
 use Rattle.gcx_model.specs.Growth.{level}
@@ -49,7 +49,7 @@ module _ (m : MatcherView) (past : Past) (kind : Kind) (G : Goes m past kind) (i
   abbrev n : Node
   n = Under G.stands.here (length past.tree.nodes) kind
 
-  abbrev t : Token
+  abbrev t : TreeToken
   t = token_for kind
 
   abbrev P : Tree
@@ -154,7 +154,7 @@ module _ (m : MatcherView) (past : Past) (kind : Kind) (G : Goes m past kind) (i
 -- what was found, by the path tree and the frames
 abbrev FindsFrom : PathTree → List FrameView → (active : List ℕ) → (here : ℕ) → List Found → Type 0
 FindsFrom tree told active here found =
-    (past : Past) (t : Token) (n : Node) → (b : Comes past tree told t n) → level n ≡ here → ((c : ℕ) → In c active → LeadsTo b.are.path n c) → Gains [] found (From active (Firsts past.plan (grow t past.tree) n tree.states.items))
+    (past : Past) (t : TreeToken) (n : Node) → (b : Comes past tree told t n) → level n ≡ here → ((c : ℕ) → In c active → LeadsTo b.are.path n c) → Gains [] found (From active (Firsts past.plan (grow t past.tree) n tree.states.items))
 
 -- there are as many states as marks then
 pub grown_together : (v v2 : StatesView) (ms later : List NodeMarks) (number : ℕ) (found : List Found) → GoTogether v ms → Enters v v2 number → AddsFrame v2 ms later found → GoTogether v2 later

@@ -3,11 +3,11 @@ use Rattle.std.proofs.Common.{◌≡◌, ℕ, suc, ◌<◌, ◌≤◌, true, Lis
 use Rattle.std.specs.Prelude.{option_map, slice_get}
 use Rattle.std.proofs.lemmas.Option.{slice_get_within}
 use Rattle.gcx_base.specs.declared.steps.Step.{Step}
-use Rattle.gcx_model.specs.Tree.{Node, serial_of, above, Tree, Token, grow}
+use Rattle.gcx_model.specs.Tree.{Node, serial_of, above, Tree, TreeToken, grow}
 use Rattle.gcx_model.specs.Paths.{head, hits, matches}
 use Rattle.gcx_model.specs.Nodes.{Grown}
 use Rattle.gcx_model.specs.Growth.{level}
-use Rattle.gcx_model.specs.Core.{Own, First, Whole, RoleKind, RoleRowTree}
+use Rattle.gcx_model.specs.Core.{Own, First, Whole, RoleTarget, RoleRowTree}
 use Rattle.gcx_model.specs.Held.{path_of}
 use Rattle.gcx_model.specs.Placed.{row_at}
 use Rattle.gcx_model.specs.Past.{Past, open_nodes}
@@ -67,13 +67,13 @@ at_hit v ms c level s e h =
 pub hit_none : (v : StatesView) (ms : List NodeMarks) (c level : ℕ) → None ≡ slice_get v.states level → Hit (frames_of v ms) c level → ⊥
 hit_none v ms c level e h = let q = frame_at v.states ms level h.frame h.at in let g : None ≡ Some q.0 = e ∙ q.1 in absurd (cc)
 
-pub first_some : (k : RoleKind) (tail : List Step) → kind_with k tail ≡ First → (s : Step) × (rest : List Step) × (tail ≡ s ∷ rest)
+pub first_some : (k : RoleTarget) (tail : List Step) → kind_with k tail ≡ First → (s : Step) × (rest : List Step) × (tail ≡ s ∷ rest)
 first_some Own tail e = absurd (cc)
 first_some First [] e = absurd (cc)
 first_some First (s ∷ rest) e = (s, rest, refl)
 first_some Whole tail e = absurd (cc)
 
-module _ (past : Past) (tree : PathTree) (told_of : List FrameView) (t : Token) (n : Node) (b : Comes past tree told_of t n) where
+module _ (past : Past) (tree : PathTree) (told_of : List FrameView) (t : TreeToken) (n : Node) (b : Comes past tree told_of t n) where
   abbrev P : Tree
   P = past.tree
 
@@ -161,7 +161,7 @@ module _ (past : Past) (tree : PathTree) (told_of : List FrameView) (t : Token) 
   )
 
 -- the same by the states and the marks
-module _ (past : Past) (v : StatesView) (ms : List NodeMarks) (many : length ms ≤ length v.states) (t : Token) (n : Node) (b : Comes past v.tree (frames_of v ms) t n) where
+module _ (past : Past) (v : StatesView) (ms : List NodeMarks) (many : length ms ≤ length v.states) (t : TreeToken) (n : Node) (b : Comes past v.tree (frames_of v ms) t n) where
   abbrev frames : List FrameView
   frames = frames_of v ms
 

@@ -9,7 +9,7 @@ use Rattle.gcx_model.specs.Tree.{Node, Root, Under, serial_of, above, Tree}
 use Rattle.gcx_model.specs.Paths.{hits, head, first, matches}
 use Rattle.gcx_model.specs.Nodes.{Grown}
 use Rattle.gcx_model.specs.Growth.{level}
-use Rattle.gcx_model.specs.Core.{RoleKind, Own, First, Whole, RoleRowTree, PlanTree}
+use Rattle.gcx_model.specs.Core.{RoleTarget, Own, First, Whole, RoleRowTree, PlanTree}
 use Rattle.gcx_model.specs.Held.{path_of, is_node, gives, given_row, on_row, given, roles_given}
 use Rattle.gcx_model.specs.Placed.{row_at}
 use Rattle.gcx_model.specs.Members.{count}
@@ -82,19 +82,19 @@ root_above (Under p s k) = inr (root_above p)
 
 -- The kinds.
 
-pub kind_whole : (k : RoleKind) (tail : List Step) → kind_with k tail ≡ Whole → k ≡ Whole
+pub kind_whole : (k : RoleTarget) (tail : List Step) → kind_with k tail ≡ Whole → k ≡ Whole
 kind_whole Own tail e = absurd (cc)
 kind_whole First [] e = absurd (cc)
 kind_whole First (s ∷ tail) e = absurd (cc)
 kind_whole Whole tail e = refl
 
-pub kind_first : (k : RoleKind) (tail : List Step) → kind_with k tail ≡ First → k ≡ First
+pub kind_first : (k : RoleTarget) (tail : List Step) → kind_with k tail ≡ First → k ≡ First
 kind_first Own tail e = absurd (cc)
 kind_first First [] e = absurd (cc)
 kind_first First (s ∷ tail) e = refl
 kind_first Whole tail e = absurd (cc)
 
-kind_own : (k : RoleKind) (tail : List Step) → kind_with k tail ≡ Own → is_whole_kind k ≡ false
+kind_own : (k : RoleTarget) (tail : List Step) → kind_with k tail ≡ Own → is_whole_kind k ≡ false
 kind_own Own tail e = refl
 kind_own First tail e = refl
 kind_own Whole tail e = absurd (cc)
@@ -124,7 +124,7 @@ module _ (plan : PlanTree) (t : PathTree) (A : IsPathTree plan t) (P : Tree) (w 
   by_row : (r : ℕ) (rw : RoleRowTree) → row_at plan.roles r ≡ Some rw → given plan P a r ≡ gives P 0 (path_of plan rw.var) rw.tail rw.kind a
   by_row r rw e = ap (on_row (given_row (path_of plan) P a)) e
 
-  own_to : (k : RoleKind) (path tail : List Step) → kind_with k tail ≡ Own → hits 0 (path ++ tail_with k tail) a ≡ true → gives P 0 path tail k a ≡ true
+  own_to : (k : RoleTarget) (path tail : List Step) → kind_with k tail ≡ Own → hits 0 (path ++ tail_with k tail) a ≡ true → gives P 0 path tail k a ≡ true
   own_to Own path tail e h = subst (λ (z : List Step). hits 0 z a ≡ true) (append-nil path) h
   own_to First path [] e h =
       let g = subst (λ (z : List Step). hits 0 z a ≡ true) (append-nil path) h in
@@ -132,7 +132,7 @@ module _ (plan : PlanTree) (t : PathTree) (A : IsPathTree plan t) (P : Tree) (w 
   own_to First path (s ∷ tail) e h = absurd (cc)
   own_to Whole path tail e h = absurd (cc)
 
-  own_from : (k : RoleKind) (path tail : List Step) → kind_with k tail ≡ Own → gives P 0 path tail k a ≡ true → hits 0 (path ++ tail_with k tail) a ≡ true
+  own_from : (k : RoleTarget) (path tail : List Step) → kind_with k tail ≡ Own → gives P 0 path tail k a ≡ true → hits 0 (path ++ tail_with k tail) a ≡ true
   own_from Own path tail e h = subst (λ (z : List Step). hits 0 z a ≡ true) (sym (append-nil path)) h
   own_from First path [] e h =
       let f : Node → Bool = λ j. is_node (serial_of a) (first P (serial_of j) []) in
@@ -161,8 +161,8 @@ module _ (plan : PlanTree) (t : PathTree) (A : IsPathTree plan t) (P : Tree) (w 
       let g : hits (serial_of q.0) tail a ≡ true = subst (λ (z : Node). hits (serial_of q.0) tail z ≡ true) same y.1 in
       (q.0, hits_above P w q.0 tail a m.0 i g, m.1, x.1 ∙ ap (λ (z : Node). Some z) same)
 
-  gives_as : (r : ℕ) (rw : RoleRowTree) (k : RoleKind) → row_at plan.roles r ≡ Some rw → rw.kind ≡ k → gives P 0 (path_of plan rw.var) rw.tail k a ≡ true → given plan P a r ≡ true
-  gives_as r rw k e f h = by_row r rw e ∙ subst (λ (z : RoleKind). gives P 0 (path_of plan rw.var) rw.tail z a ≡ true) (sym f) h
+  gives_as : (r : ℕ) (rw : RoleRowTree) (k : RoleTarget) → row_at plan.roles r ≡ Some rw → rw.kind ≡ k → gives P 0 (path_of plan rw.var) rw.tail k a ≡ true → given plan P a r ≡ true
+  gives_as r rw k e f h = by_row r rw e ∙ subst (λ (z : RoleTarget). gives P 0 (path_of plan rw.var) rw.tail z a ≡ true) (sym f) h
 
   role_to : (r : ℕ) → HasRole t.states.items whole leading firsts r → (r < length plan.roles) × (given plan P a r ≡ true)
   role_to r (inl h) =
@@ -179,18 +179,18 @@ module _ (plan : PlanTree) (t : PathTree) (A : IsPathTree plan t) (P : Tree) (w 
       let at : row_at plan.roles r ≡ Some q.row = subst (λ (z : ℕ). row_at plan.roles z ≡ Some q.row) f.is q.role.at in
       (row_below plan.roles r q.row at, gives_as r q.row First at (kind_first q.row.kind q.row.tail q.role.same) (first_to (path_of plan q.row.var) q.row.tail d.context d.over q.hit q.is))
 
-  by_kind : (r : ℕ) (rw : RoleRowTree) → row_at plan.roles r ≡ Some rw → (k : RoleKind) → kind_with rw.kind rw.tail ≡ k → given plan P a r ≡ true → HasRole t.states.items whole leading firsts r
+  by_kind : (r : ℕ) (rw : RoleRowTree) → row_at plan.roles r ≡ Some rw → (k : RoleTarget) → kind_with rw.kind rw.tail ≡ k → given plan P a r ≡ true → HasRole t.states.items whole leading firsts r
   by_kind r rw e Own s h =
       let v = end_of plan t A r Own rw (record { at = e; same = s }) in
       let q = some_at t.states.items v.0 v.1 in
       let g = own_from rw.kind (path_of plan rw.var) rw.tail s (sym (by_row r rw e) ∙ h) in
       inr (inl (record { of = v.0; member = (hits_are v.0).1 (v.1, subst (λ (z : List Step). hits 0 z a ≡ true) (sym v.3) g); is = record { state = q.0; at = q.1; member = ((A.linked v.0 q.0 q.1).own r).1 v.2 } }))
   by_kind r rw e First s h =
-      let g = first_from (path_of plan rw.var) rw.tail (subst (λ (z : RoleKind). gives P 0 (path_of plan rw.var) rw.tail z a ≡ true) (kind_first rw.kind rw.tail s) (sym (by_row r rw e) ∙ h)) in
+      let g = first_from (path_of plan rw.var) rw.tail (subst (λ (z : RoleTarget). gives P 0 (path_of plan rw.var) rw.tail z a ≡ true) (kind_first rw.kind rw.tail s) (sym (by_row r rw e) ∙ h)) in
       let f : Found = record { role = r; level = level g.0 } in
       inr (inr (record { of = f; member = (found_are f).1 (record { context = g.0; over = g.1; at = refl; is = record { row = rw; role = record { at = e; same = s }; hit = g.2; is = g.3 } }); is = refl }))
   by_kind r rw e Whole s h =
-      inl ((whole_are r).1 (record { row = rw; role = record { at = e; same = s }; hit = subst (λ (z : RoleKind). gives P 0 (path_of plan rw.var) rw.tail z a ≡ true) (kind_whole rw.kind rw.tail s) (sym (by_row r rw e) ∙ h) }))
+      inl ((whole_are r).1 (record { row = rw; role = record { at = e; same = s }; hit = subst (λ (z : RoleTarget). gives P 0 (path_of plan rw.var) rw.tail z a ≡ true) (kind_whole rw.kind rw.tail s) (sym (by_row r rw e) ∙ h) }))
 
   role_from : (r : ℕ) → r < length plan.roles → given plan P a r ≡ true → HasRole t.states.items whole leading firsts r
   role_from r l h = let q = row_there plan.roles r l in by_kind r q.0 q.1 (kind_with q.0.kind q.0.tail) refl h
@@ -205,7 +205,7 @@ module _ (plan : PlanTree) (t : PathTree) (A : IsPathTree plan t) (P : Tree) (w 
     spread_row : (r : ℕ) (rw : RoleRowTree) → row_at plan.roles r ≡ Some rw → rw.kind ≡ Whole → is_newly_given plan P a r ≡ hits 0 (path_of plan rw.var ++ rw.tail) a
     spread_row r rw e f =
         ap (on_row (gives_newly (path_of plan) P a)) e
-        ∙ ap (λ (k : RoleKind). cond (is_whole_kind k) (hits 0 (path_of plan rw.var ++ rw.tail) a) (given_row (path_of plan) P a rw)) f
+        ∙ ap (λ (k : RoleTarget). cond (is_whole_kind k) (hits 0 (path_of plan rw.var ++ rw.tail) a) (given_row (path_of plan) P a rw)) f
 
     other_row : (r : ℕ) (rw : RoleRowTree) → row_at plan.roles r ≡ Some rw → is_whole_kind rw.kind ≡ false → is_newly_given plan P a r ≡ given plan P a r
     other_row r rw e f =
@@ -232,11 +232,11 @@ module _ (plan : PlanTree) (t : PathTree) (A : IsPathTree plan t) (P : Tree) (w 
       | inr s ↦ elim s [ inl o ↦ inr o | inr g ↦ absurd (subst (λ (z : List Found). In g.of z) alone g.member) ]
     ]
 
-    newly_from : (r : ℕ) (rw : RoleRowTree) → row_at plan.roles r ≡ Some rw → r < length plan.roles → (k : RoleKind) → rw.kind ≡ k → is_newly_given plan P a r ≡ true → GivenBy t.states.items newly leading r
+    newly_from : (r : ℕ) (rw : RoleRowTree) → row_at plan.roles r ≡ Some rw → r < length plan.roles → (k : RoleTarget) → rw.kind ≡ k → is_newly_given plan P a r ≡ true → GivenBy t.states.items newly leading r
     newly_from r rw e l Own f h = other_from r rw e l (ap is_whole_kind f) h
     newly_from r rw e l First f h = other_from r rw e l (ap is_whole_kind f) h
     newly_from r rw e l Whole f h =
-        inl ((newly_are r).1 (record { row = rw; role = record { at = e; same = ap (λ (k : RoleKind). kind_with k rw.tail) f }; hit = sym (spread_row r rw e f) ∙ h }))
+        inl ((newly_are r).1 (record { row = rw; role = record { at = e; same = ap (λ (k : RoleTarget). kind_with k rw.tail) f }; hit = sym (spread_row r rw e f) ∙ h }))
 
     pub newly_told : (r : ℕ) → GivenBy t.states.items newly leading r ↔ In r (roles_newly_given plan P a)
     newly_told r = (

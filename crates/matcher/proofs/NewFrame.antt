@@ -11,7 +11,7 @@ use Rattle.gcx_model.specs.Tree.{Node, Under, above, Tree}
 use Rattle.gcx_base.specs.Tests.{passes}
 use Rattle.gcx_model.specs.Paths.{any, hits}
 use Rattle.gcx_model.specs.Nodes.{Grown}
-use Rattle.gcx_model.specs.Core.{RoleKind, Own, First, Whole, RoleRowTree, PlanTree}
+use Rattle.gcx_model.specs.Core.{RoleTarget, Own, First, Whole, RoleRowTree, PlanTree}
 use Rattle.gcx_model.specs.ItemView.{role_kind}
 use Rattle.gcx_model.specs.Held.{path_of}
 use Rattle.placed_laws.proofs.Unique.{row_there}
@@ -26,12 +26,12 @@ use Rattle.path_states.specs.declared.paths.Way.{Way}
 use Rattle.matcher.proofs.Leading.{Led, last_to, last_from}
 use Rattle.path_states.proofs.Looking.{some_at, one_at, in_some, in_not_none}
 
-pub whole_tail : (k : RoleKind) (tail : List Step) → kind_with k tail ≡ Whole → tail_with k tail ≡ tail
+pub whole_tail : (k : RoleTarget) (tail : List Step) → kind_with k tail ≡ Whole → tail_with k tail ≡ tail
 whole_tail Own tail e = absurd (cc)
 whole_tail First tail e = refl
 whole_tail Whole tail e = refl
 
-pub first_tail : (k : RoleKind) (tail : List Step) → kind_with k tail ≡ First → tail_with k tail ≡ tail
+pub first_tail : (k : RoleTarget) (tail : List Step) → kind_with k tail ≡ First → tail_with k tail ≡ tail
 first_tail Own tail e = absurd (cc)
 first_tail First tail e = refl
 first_tail Whole tail e = refl
@@ -47,7 +47,7 @@ module _ (plan : PlanTree) (t : PathTree) (A : IsPathTree plan t) where
       some_at t.states.items s.parent (omega arith)
 
   -- the roles with their subtrees
-  pub ended : (r : ℕ) (p : ℕ) (kind : RoleKind) → IsEnd t.ways.items kind p r → (row : RoleRowTree) × IsRole plan kind r row × (A.path p ≡ path_of plan row.var ++ tail_with row.kind row.tail)
+  pub ended : (r : ℕ) (p : ℕ) (kind : RoleTarget) → IsEnd t.ways.items kind p r → (row : RoleRowTree) × IsRole plan kind r row × (A.path p ≡ path_of plan row.var ++ tail_with row.kind row.tail)
   ended r p kind e =
       let l = slice_get_within t.ways.items r e.way e.at in
       let m : r < length plan.roles = (let z = A.roles in omega arith) in
@@ -56,7 +56,7 @@ module _ (plan : PlanTree) (t : PathTree) (A : IsPathTree plan t) where
       let same : e.way ≡ v.0 = one_at t.ways.items r e.way v.0 e.at v.1 in
       (row.0, record { at = row.1; same = sym v.2.kind ∙ (ap (λ (z : Way). role_kind z.kind) (sym same) ∙ e.same) }, ap A.path (sym e.end ∙ ap (λ (z : Way). z.end) same) ∙ v.2.end)
 
-  pub end_of : (r : ℕ) (kind : RoleKind) (row : RoleRowTree) → IsRole plan kind r row → (p : ℕ) × (p < count) × IsEnd t.ways.items kind p r × (A.path p ≡ path_of plan row.var ++ tail_with row.kind row.tail)
+  pub end_of : (r : ℕ) (kind : RoleTarget) (row : RoleRowTree) → IsRole plan kind r row → (p : ℕ) × (p < count) × IsEnd t.ways.items kind p r × (A.path p ≡ path_of plan row.var ++ tail_with row.kind row.tail)
   end_of r kind row is =
       let v = A.ways r row is.at in
       (v.0.end, v.2.end_known, record { way = v.0; at = v.1; end = refl; same = v.2.kind ∙ is.same }, v.2.end)

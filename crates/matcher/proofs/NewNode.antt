@@ -8,7 +8,7 @@ use Rattle.gcx_base.specs.declared.kind.Kind.TheVariants.{Document, Element, Tex
 use Rattle.gcx_base.specs.declared.steps.Step.{Step}
 use Rattle.gcx_base.specs.declared.steps.Axis.{Axis}
 use Rattle.gcx_base.specs.declared.steps.Axis.TheVariants.{Child, Descendant}
-use Rattle.gcx_model.specs.Tree.{Node, Root, Under, serial_of, kind_of, above, within, Tree, Token, grow, grow_at}
+use Rattle.gcx_model.specs.Tree.{Node, Root, Under, serial_of, kind_of, above, within, Tree, TreeToken, grow, grow_at}
 use Rattle.gcx_base.specs.Tests.{passes}
 use Rattle.gcx_model.specs.Paths.{head, hits, reach, lies, first, matches}
 use Rattle.gcx_model.specs.Nodes.{Grown}
@@ -33,7 +33,7 @@ innermost_of P a at Document n = absurd n
 innermost_of P a at (Element v) n = ap (λ (o : Option Node). (grow_at o (token_for (Element v)) P).at) at
 innermost_of P a at (Text v) n = (a, length P.nodes, v, P.nodes, refl, ap (λ (o : Option Node). (grow_at o (token_for (Text v)) P).at) at, nodes_of P a at (Text v) n)
 
-pub past_new : (past : Past) (t : Token) → IsPast past → may_come t past.tree ≡ true → IsPast (past_grown t past)
+pub past_new : (past : Past) (t : TreeToken) → IsPast past → may_come t past.tree ≡ true → IsPast (past_grown t past)
 past_new past t w may = let f = past_feeds past w t may in record { core = f.core; good = f.good; placed = f.placed; grown = f.grown; stated = f.stated; within = w.within }
 
 -- the node of this kind that comes below a
@@ -74,7 +74,7 @@ head_none [] e = refl
 head_none (x ∷ xs) e = absurd (cc)
 
 -- What holds of each node that a token opens.
-module _ (P : Tree) (w : Grown P) (t : Token) (n : Node) (o : Opens P t n) where
+module _ (P : Tree) (w : Grown P) (t : TreeToken) (n : Node) (o : Opens P t n) where
   abbrev Q : Tree
   Q = grow t P
 

@@ -1,7 +1,7 @@
 -- The frames of the nodes that were open, behind a token.
 use Rattle.std.proofs.Common.{◌≡◌, ℕ, List, refl, sym, ◌∙◌, subst, Some, None}
 use Rattle.gcx_base.specs.declared.steps.Step.{Step}
-use Rattle.gcx_model.specs.Tree.{Node, serial_of, Tree, Token, grow}
+use Rattle.gcx_model.specs.Tree.{Node, serial_of, Tree, TreeToken, grow}
 use Rattle.gcx_model.specs.Paths.{first}
 use Rattle.gcx_model.specs.Nodes.{Grown}
 use Rattle.gcx_model.specs.Growth.{level}
@@ -19,7 +19,7 @@ use Rattle.matcher.proofs.Framing.{FrameMatched}
 use Rattle.matcher.proofs.Upwards.{level_same}
 use Rattle.matcher.proofs.NewNode.{older_above, older_in, first_stays, first_was, none_was, none_stays}
 
-module _ (plan : PlanTree) (tree : List PathState) (path : ℕ → List Step) (P : Tree) (w : Grown P) (t : Token) (n : Node) (o : Opens P t n)
+module _ (plan : PlanTree) (tree : List PathState) (path : ℕ → List Step) (P : Tree) (w : Grown P) (t : TreeToken) (n : Node) (o : Opens P t n)
     (found : List Found) (is_found : (f : Found) → In f found → IsFound plan (grow t P) n f) (found_is : (f : Found) → IsFound plan (grow t P) n f → In f found) where
   abbrev Q : Tree
   Q = grow t P

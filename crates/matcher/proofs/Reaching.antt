@@ -5,7 +5,7 @@ use Rattle.gcx_base.specs.declared.steps.Step.{Step}
 use Rattle.gcx_model.specs.Tree.{Node, serial_of, above, Tree}
 use Rattle.gcx_model.specs.Paths.{hits, first, matches}
 use Rattle.gcx_model.specs.Nodes.{Grown}
-use Rattle.gcx_model.specs.Core.{RoleKind, Own, First, Whole}
+use Rattle.gcx_model.specs.Core.{RoleTarget, Own, First, Whole}
 use Rattle.gcx_model.specs.Held.{is_node, gives}
 use Rattle.base_laws.proofs.Members.{head_in}
 use Rattle.tree_laws.proofs.Lists.{In, any_in, any_from}
@@ -18,7 +18,7 @@ use Rattle.matcher.proofs.Leading.{split}
 use Rattle.matcher.proofs.GivenRoles.{self_first}
 
 -- from the node v of its variable the role of this kind is given to n
-abbrev pub Ends : RoleKind → Tree → List Step → (n v : Node) → Type 0
+abbrev pub Ends : RoleTarget → Tree → List Step → (n v : Node) → Type 0
 Ends Own P tail n v = v ≡ n
 Ends First P tail n v = first P (serial_of v) tail ≡ Some n
 Ends Whole P tail n v = (j : Node) × In j (above n) × (hits (serial_of v) tail j ≡ true)
@@ -31,7 +31,7 @@ module _ (P : Tree) (w : Grown P) (n : Node) (i : In n P.nodes) where
       let same : x.0 ≡ n = Numbered-same 0 P.nodes w.numbered x.0 n y.0 i x.2 in
       (x.1 ∙ ap (λ (z : Node). Some z) same, subst (λ (z : Node). hits (serial_of j) tail z ≡ true) same y.1)
 
-  pub gives_to : (m : ℕ) (path tail : List Step) (k : RoleKind) → gives P m path tail k n ≡ true → (v : Node) × In v (above n) × (hits m path v ≡ true) × Ends (kind_with k tail) P tail n v
+  pub gives_to : (m : ℕ) (path tail : List Step) (k : RoleTarget) → gives P m path tail k n ≡ true → (v : Node) × In v (above n) × (hits m path v ≡ true) × Ends (kind_with k tail) P tail n v
   gives_to m path tail Own g = (n, above_self n, g, refl)
   gives_to m path [] First g =
       let r = any_in (λ (j : Node). is_node (serial_of n) (first P (serial_of j) [])) (matches P m path) g in
@@ -49,7 +49,7 @@ module _ (P : Tree) (w : Grown P) (n : Node) (i : In n P.nodes) where
       let v = split P w m path tail r.0 (above_in P w n r.0 i r.1) r.2 in
       (v.0, above_trans v.0 r.0 n v.1 r.1, v.2, (r.0, r.1, v.3))
 
-  pub gives_from : (m : ℕ) (path tail : List Step) (k : RoleKind) (v : Node) → In v (above n) → hits m path v ≡ true → Ends (kind_with k tail) P tail n v → gives P m path tail k n ≡ true
+  pub gives_from : (m : ℕ) (path tail : List Step) (k : RoleTarget) (v : Node) → In v (above n) → hits m path v ≡ true → Ends (kind_with k tail) P tail n v → gives P m path tail k n ≡ true
   gives_from m path tail Own v o h e = subst (λ (z : Node). hits m path z ≡ true) e h
   gives_from m path [] First v o h e =
       any_from (λ (j : Node). is_node (serial_of n) (first P (serial_of j) [])) n (matches P m path) (Matches-from P m path n i (subst (λ (z : Node). hits m path z ≡ true) e h)) (self_first P.nodes n i)

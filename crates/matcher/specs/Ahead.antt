@@ -1,6 +1,6 @@
 -- How the roles are found that are taken back in advance (this project's). This follows the code: private functions alone speak of it.
 use Rattle.std.specs.Prelude.{◌≡◌, ◌-◌, ◌↔◌, ℕ, Bool, true, List, length, Some}
-use Rattle.gcx_model.specs.Core.{RoleKind, Own, First, Whole}
+use Rattle.gcx_model.specs.Core.{RoleTarget, Own, First, Whole}
 use Rattle.gcx_model.specs.ItemView.{role_kind}
 use Rattle.gcx_model.specs.Members.{In}
 use Rattle.path_states.specs.Lists.{Climbs, From}
@@ -33,13 +33,13 @@ pub record FirstTarget (m : MatcherView) (role level : ℕ) : Type 0 where
   pub from : From frame.found (IsLevelOf role) level
 
 -- from the level the innermost node has the role of this kind, whose path ends at the path state `end`
-abbrev pub Target : RoleKind → MatcherView → (role end level : ℕ) → Type 0
+abbrev pub Target : RoleTarget → MatcherView → (role end level : ℕ) → Type 0
 Target Own m role end level = OwnTarget m end level
 Target First m role end level = FirstTarget m role level
 Target Whole m role end level = WholeTarget m role end level
 
 -- the levels of the role's variable: those of a Whole role lie above the targets, by its tail
-abbrev pub AreVars : RoleKind → MatcherView → Way → (targets levels : List ℕ) → Type 0
+abbrev pub AreVars : RoleTarget → MatcherView → Way → (targets levels : List ℕ) → Type 0
 AreVars Own m way targets levels = levels ≡ targets
 AreVars First m way targets levels = levels ≡ targets
 AreVars Whole m way targets levels = Up m.tree.states.items m.frames way.steps way.end targets levels

@@ -4,7 +4,7 @@ use Rattle.gcx_base.specs.Kinds.{is_text}
 use Rattle.gcx_base.specs.declared.ids.Role.{Role}
 use Rattle.gcx_base.specs.declared.kind.Kind.{Kind}
 use Rattle.gcx_base.specs.declared.steps.Step.{Step}
-use Rattle.gcx_model.specs.Tree.{Node, Tree, Token, grow}
+use Rattle.gcx_model.specs.Tree.{Node, Tree, TreeToken, grow}
 use Rattle.gcx_model.specs.Paths.{hits}
 use Rattle.gcx_model.specs.Core.{First, PlanTree, RoleRowTree}
 use Rattle.gcx_model.specs.Held.{path_of}
@@ -28,7 +28,7 @@ use Rattle.matcher.specs.View.{FrameView, GoTogether, MatcherView, frames_of, in
 use Rattle.matcher.specs.declared.frames.Found.{Found}
 
 -- the frames are those of the open nodes, and the token opens the node n
-pub record Comes (past : Past) (tree : PathTree) (told : List FrameView) (t : Token) (n : Node) : Type 0 where
+pub record Comes (past : Past) (tree : PathTree) (told : List FrameView) (t : TreeToken) (n : Node) : Type 0 where
   pub is_past : IsPast past
   pub are : IsPathTree past.plan tree
   pub opens : Opens past.tree t n
@@ -56,24 +56,24 @@ pub record Firsts (plan : PlanTree) (P : Tree) (n : Node) (tree : List PathState
 -- What is added are the contexts of the role whose first match a new node of the level is, to which the role's path leads; where there are states for all marks.
 abbrev pub FindsRole : StatesView → List NodeMarks → (role here : ℕ) → (before now : List Found) → Type 0
 FindsRole v marks role here before now =
-    length marks ≤ length v.states → (past : Past) (t : Token) (n : Node) → Comes past v.tree (frames_of v marks) t n → level n ≡ here → RoleLeads past.plan n role → Gains before now (FoundOf past.plan (grow t past.tree) n role)
+    length marks ≤ length v.states → (past : Past) (t : TreeToken) (n : Node) → Comes past v.tree (frames_of v marks) t n → level n ≡ here → RoleLeads past.plan n role → Gains before now (FoundOf past.plan (grow t past.tree) n role)
 
 -- the same for each of the roles
 abbrev pub FindsRoles : StatesView → List NodeMarks → (roles : List ℕ) → (here : ℕ) → (before now : List Found) → Type 0
 FindsRoles v marks roles here before now =
-    length marks ≤ length v.states → (past : Past) (t : Token) (n : Node) → Comes past v.tree (frames_of v marks) t n → level n ≡ here → ((r : ℕ) → In r roles → RoleLeads past.plan n r)
+    length marks ≤ length v.states → (past : Past) (t : TreeToken) (n : Node) → Comes past v.tree (frames_of v marks) t n → level n ≡ here → ((r : ℕ) → In r roles → RoleLeads past.plan n r)
     → Gains before now (From roles (FoundOf past.plan (grow t past.tree) n))
 
 -- the same for the roles that end at the path state, whose path leads to the new node
 abbrev pub FindsAt : StatesView → List NodeMarks → (state here : ℕ) → (before now : List Found) → Type 0
 FindsAt v marks state here before now =
-    length marks ≤ length v.states → (past : Past) (t : Token) (n : Node) → (b : Comes past v.tree (frames_of v marks) t n) → level n ≡ here → LeadsTo b.are.path n state
+    length marks ≤ length v.states → (past : Past) (t : TreeToken) (n : Node) → (b : Comes past v.tree (frames_of v marks) t n) → level n ≡ here → LeadsTo b.are.path n state
     → Gains before now (Firsts past.plan (grow t past.tree) n v.tree.states.items state)
 
 -- the same for each of the path states
 abbrev pub FindsAll : StatesView → List NodeMarks → (active : List ℕ) → (here : ℕ) → (before now : List Found) → Type 0
 FindsAll v marks active here before now =
-    length marks ≤ length v.states → (past : Past) (t : Token) (n : Node) → (b : Comes past v.tree (frames_of v marks) t n) → level n ≡ here → ((c : ℕ) → In c active → LeadsTo b.are.path n c)
+    length marks ≤ length v.states → (past : Past) (t : TreeToken) (n : Node) → (b : Comes past v.tree (frames_of v marks) t n) → level n ≡ here → ((c : ℕ) → In c active → LeadsTo b.are.path n c)
     → Gains before now (From active (Firsts past.plan (grow t past.tree) n v.tree.states.items))
 
 -- the innermost frame tells that no path leads below it, and that nothing is pending there

@@ -3,7 +3,7 @@ use Rattle.std.specs.Prelude.{◌≡◌, ◌<◌, ◌↔◌, ℕ, true, List, �
 use Rattle.gcx_base.specs.declared.steps.Step.{Step}
 use Rattle.gcx_model.specs.Tree.{Node, serial_of, above, Tree}
 use Rattle.gcx_model.specs.Paths.{any, hits, first}
-use Rattle.gcx_model.specs.Core.{RoleKind, First, Whole, RoleRowTree, PlanTree}
+use Rattle.gcx_model.specs.Core.{RoleTarget, First, Whole, RoleRowTree, PlanTree}
 use Rattle.gcx_model.specs.Held.{path_of}
 use Rattle.gcx_model.specs.Growth.{level}
 use Rattle.gcx_model.specs.Members.{In}
@@ -17,7 +17,7 @@ use Rattle.matcher.specs.View.{FrameView}
 use Rattle.matcher.specs.declared.frames.Found.{Found}
 
 -- the role has this row, and is given in this manner
-pub record IsRole (plan : PlanTree) (kind : RoleKind) (r : ℕ) (row : RoleRowTree) : Type 0 where
+pub record IsRole (plan : PlanTree) (kind : RoleTarget) (r : ℕ) (row : RoleRowTree) : Type 0 where
   pub at : row_at plan.roles r ≡ Some row
   pub same : kind_with row.kind row.tail ≡ kind
 

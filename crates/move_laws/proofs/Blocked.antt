@@ -7,22 +7,22 @@ use Rattle.std.proofs.Math.Seq.{drop-append_seam}
 use Rattle.gcx_base.specs.declared.steps.Step.{Step}
 use Rattle.gcx_model.specs.Tree.{Node, serial_of, Tree, is_closed}
 use Rattle.gcx_model.specs.Paths.{hits, matches}
-use Rattle.gcx_model.specs.Core.{CondTree, ItemTree, Write, Copy, For, If, Off, BodyTree, Nil, Then}
+use Rattle.gcx_model.specs.Core.{CondTree, ItemTree, Write, Copy, For, If, SignOff, BodyTree, Nil, Then}
 use Rattle.gcx_model.specs.declared.truth.Truth.{Truth}
 use Rattle.gcx_model.specs.declared.truth.Truth.TheVariants.{True, False, Unknown}
 use Rattle.gcx_model.specs.Truth.{Env, bind_var, truth}
 use Rattle.gcx_model.specs.Run.{Action, Out, idle, seq, loop, copy, choose, run_item, run}
 use Rattle.tree_laws.proofs.Matches.{Grown, Rising, Rising-filter}
 use Rattle.placed_laws.proofs.AllTaken.{seq_both}
-use Rattle.placed_laws.proofs.PointForms.{Frame, Rest, Round, Part, IsPoint, Begins, Past, InLoop, InYes, InNo, InCopy, body_at, later, later_is, behind, seq-done}
+use Rattle.placed_laws.proofs.PointForms.{Frame, Rest, LoopRound, CopyPart, IsPoint, Begins, PastItem, InLoop, InYes, InNo, InCopy, body_at, later, later_is, behind, seq-done}
 use Rattle.placed_laws.proofs.Prefix.{seq_wait}
 
 -- the top frame waits: for a condition, for the first match of a loop, for a later one, or within a copy
 pub data IsBlocked (P : Tree) (fs : List Frame) : Type 0 where
   AtBranch : (c : CondTree) (a b d : BodyTree) (env : Env) (below : List Frame) → fs ≡ Rest (Then (If c a b) d) env ∷ below → truth c env P ≡ Unknown → IsBlocked P fs
   AtLoop : (x y : ℕ) (s : Step) (e d : BodyTree) (env : Env) (below : List Frame) → fs ≡ Rest (Then (For x y s e) d) env ∷ below → matches P (serial_of (env y)) (s ∷ []) ≡ [] → is_closed P (env y) ≡ false → IsBlocked P fs
-  AtRound : (v : Env) (x y : ℕ) (s : Step) (e : BodyTree) (env : Env) (n : Node) (below : List Frame) → fs ≡ Rest Nil v ∷ Round x y s e env n ∷ below → later n (matches P (serial_of (env y)) (s ∷ [])) ≡ [] → is_closed P (env y) ≡ false → IsBlocked P fs
-  AtCopy : (x : ℕ) (env : Env) (made : ℕ) (below : List Frame) → fs ≡ Part x env made ∷ below → behind made (copy (length P.nodes) P (env x)) ≡ idle false → IsBlocked P fs
+  AtRound : (v : Env) (x y : ℕ) (s : Step) (e : BodyTree) (env : Env) (n : Node) (below : List Frame) → fs ≡ Rest Nil v ∷ LoopRound x y s e env n ∷ below → later n (matches P (serial_of (env y)) (s ∷ [])) ≡ [] → is_closed P (env y) ≡ false → IsBlocked P fs
+  AtCopy : (x : ℕ) (env : Env) (made : ℕ) (below : List Frame) → fs ≡ CopyPart x env made ∷ below → behind made (copy (length P.nodes) P (env x)) ≡ idle false → IsBlocked P fs
 
 under : (P : Tree) (fs gs : List Frame) → IsBlocked P fs → IsBlocked P (fs ++ gs)
 under P fs gs (AtBranch c a b d env below e t) = AtBranch c a b d env (below ++ gs) (ap (λ z. z ++ gs) e) t
@@ -68,7 +68,7 @@ module _ (P : Tree) (w : Grown P) where
   at_end Nil env h = Begins
   at_end (Then i d) env h =
       let q = seq_both (run_item i env P) (run d env P) h in
-      subst (λ (z : List Action). IsPoint P (Then i d) env z (Rest Nil env ∷ [])) (sym (acts_both (run_item i env P) (run d env P) q.0)) (Past q.0 (at_end d env q.1))
+      subst (λ (z : List Action). IsPoint P (Then i d) env z (Rest Nil env ∷ [])) (sym (acts_both (run_item i env P) (run d env P) q.0)) (PastItem q.0 (at_end d env q.1))
 
   abbrev pub Blocked : BodyTree → Env → List Action → Type 0
   Blocked d env acts = (fs : List Frame) × IsPoint P d env acts fs × IsBlocked P fs
@@ -82,10 +82,10 @@ module _ (P : Tree) (w : Grown P) where
   mutual
     blocked_item : (i : ItemTree) (d : BodyTree) (env : Env) → (run_item i env P).done ≡ false → Blocked (Then i d) env (run_item i env P).acts
     blocked_item (Write b) d env h = absurd (true≢false h)
-    blocked_item (Off o) d env h = absurd (true≢false h)
+    blocked_item (SignOff o) d env h = absurd (true≢false h)
     blocked_item (Copy x) d env h =
         let o : Out = copy (length P.nodes) P (env x) in
-        (Part x env (length o.acts) ∷ Rest d env ∷ [], InCopy o.acts [] (sym (append-nil o.acts)), AtCopy x env (length o.acts) (Rest d env ∷ []) refl (behind_all o h))
+        (CopyPart x env (length o.acts) ∷ Rest d env ∷ [], InCopy o.acts [] (sym (append-nil o.acts)), AtCopy x env (length o.acts) (Rest d env ∷ []) refl (behind_all o h))
     blocked_item (If c a b) d env h = go (truth c env P) refl h (λ k. blocked a env k) (λ k. blocked b env k)
       where
         go : (v : Truth) → truth c env P ≡ v → (choose v (run a env P) (run b env P)).done ≡ false → ((run a env P).done ≡ false → Blocked a env (run a env P).acts) → ((run b env P).done ≡ false → Blocked b env (run b env P).acts)
@@ -108,12 +108,12 @@ module _ (P : Tree) (w : Grown P) where
         go (InRound pre n post m dn k a) ih =
             let q = ih n k in
             with_acts (Then (For x y s e) d) env ((loop f pre true).acts ++ (f n).acts) (loop f ms over).acts (sym a)
-            (q.0 ++ Round x y s e env n ∷ Rest d env ∷ [], InLoop pre n post m dn q.1, under P q.0 (Round x y s e env n ∷ Rest d env ∷ []) q.2)
+            (q.0 ++ LoopRound x y s e env n ∷ Rest d env ∷ [], InLoop pre n post m dn q.1, under P q.0 (LoopRound x y s e env n ∷ Rest d env ∷ []) q.2)
         go (WithNone m o a) ih = with_acts (Then (For x y s e) d) env [] (loop f ms over).acts (sym a) (Rest (Then (For x y s e) d) env ∷ [], Begins, AtLoop x y s e d env [] refl m o)
         go (BehindLast pre n m dn l o a) ih =
             let t : later n ms ≡ [] = ap (later n) m ∙ later_is pre n [] (subst (λ (z : List Node). Rising z) m (Rising-filter 0 (hits (serial_of (env y)) (s ∷ [])) P.nodes w.numbered)) in
             with_acts (Then (For x y s e) d) env ((loop f pre true).acts ++ (f n).acts) (loop f ms over).acts (sym a) (
-              Rest Nil (bind_var env x n) ∷ Round x y s e env n ∷ Rest d env ∷ [],
+              Rest Nil (bind_var env x n) ∷ LoopRound x y s e env n ∷ Rest d env ∷ [],
               InLoop pre n [] m dn (at_end e (bind_var env x n) l),
               AtRound (bind_var env x n) x y s e env n (Rest d env ∷ []) refl t o,
             )
@@ -126,5 +126,5 @@ module _ (P : Tree) (w : Grown P) where
         go : (b : Bool) → (run_item i env P).done ≡ b → ((run_item i env P).done ≡ false → Blocked (Then i d) env (run_item i env P).acts) → ((run d env P).done ≡ false → Blocked d env (run d env P).acts) → Blocked (Then i d) env (run (Then i d) env P).acts
         go true e l r =
             let q = r (sym (done_both (run_item i env P) (run d env P) e) ∙ h) in
-            with_acts (Then i d) env ((run_item i env P).acts ++ (run d env P).acts) (run (Then i d) env P).acts (sym (acts_both (run_item i env P) (run d env P) e)) (q.0, Past e q.1, q.2)
+            with_acts (Then i d) env ((run_item i env P).acts ++ (run d env P).acts) (run (Then i d) env P).acts (sym (acts_both (run_item i env P) (run d env P) e)) (q.0, PastItem e q.1, q.2)
         go false e l r = with_acts (Then i d) env (run_item i env P).acts (run (Then i d) env P).acts (ap (λ (z : Out). z.acts) (sym (seq_wait (run_item i env P) (run d env P) e))) (l e)

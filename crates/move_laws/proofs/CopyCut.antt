@@ -4,7 +4,7 @@ use Rattle.std.specs.List.{filter}
 use Rattle.std.proofs.lemmas.List.{append-nil}
 use Rattle.gcx_base.specs.declared.kind.Kind.{Kind}
 use Rattle.gcx_base.specs.declared.kind.Kind.TheVariants.{Document, Element, Text}
-use Rattle.gcx_model.specs.Tree.{Node, serial_of, kind_of, Tree, Token, grow, grow_all, is_closed}
+use Rattle.gcx_model.specs.Tree.{Node, serial_of, kind_of, Tree, TreeToken, grow, grow_all, is_closed}
 use Rattle.gcx_model.specs.Paths.{hits}
 use Rattle.gcx_model.specs.Core.{Copy}
 use Rattle.gcx_model.specs.Answer.{child_step, children}
@@ -120,7 +120,7 @@ copy_is_cut P w n i before rest e = cut P w (length P.nodes) n i (omega arith) b
 
 -- while tokens come
 
-module _ (t : Token) (P : Tree) (w : Grown P) where
+module _ (t : TreeToken) (P : Tree) (w : Grown P) where
   copies_stay : (pre : List Node) → ((a : Node) → In a pre → In a P.nodes) → (copies P pre).done ≡ true → copies P pre ≡ copies (grow t P) pre
   copies_stay pre h dn =
       let each : (a : Node) → In a pre → Before (copy_all P a) (copy_all (grow t P) a) = λ a j. item_grows t P w (Copy 0) (λ x. a) (λ x. let r = Numbered-high 0 P.nodes w.numbered a (h a j) in omega arith) in
@@ -146,6 +146,6 @@ module _ (t : Token) (P : Tree) (w : Grown P) where
       subst (λ (z : List Action). IsCopyPoint (grow t P) n (b ++ (begun (kind_of o) ++ z)) (Inside o (last_of pre) ∷ below)) (sym (ap (λ (z : Out). z.acts) same))
       (InNode pre _ (comes_stays n o b below h) has (children_more o pre post e) (ap (λ (z : Out). z.done) (sym same) ∙ dn))
 
-pub within_all : (ts : List Token) (P : Tree) → Grown P → (n : Node) (before : List Action) (fs : List CopyFrame) → IsCopyPoint P n before fs → IsCopyPoint (grow_all ts P) n before fs
+pub within_all : (ts : List TreeToken) (P : Tree) → Grown P → (n : Node) (before : List Action) (fs : List CopyFrame) → IsCopyPoint P n before fs → IsCopyPoint (grow_all ts P) n before fs
 within_all [] P w n before fs h = h
 within_all (t ∷ ts) P w n before fs h = within_all ts (grow t P) (Grown-grow t P w) n before fs (within_stays t P w n before fs h)

@@ -13,10 +13,10 @@ use Rattle.gcx_model.specs.Cores.{Good}
 use Rattle.gcx_model.specs.Placed.{Placed}
 use Rattle.gcx_model.specs.Held.{held, held_tree, is_held}
 use Rattle.gcx_model.specs.Growth.{Leads}
-use Rattle.gcx_model.specs.Points.{actions, so_far, CoreState, Frame, Rest, Round, Part, behind, to_come, IsPoint, Begins, Past, InLoop, InYes, InNo, PointAt}
+use Rattle.gcx_model.specs.Points.{actions, so_far, CoreState, Frame, Rest, LoopRound, CopyPart, behind, to_come, IsPoint, Begins, PastItem, InLoop, InYes, InNo, PointAt}
 use Rattle.gcx_model.specs.Points as points
 use Rattle.gcx_model.specs.Copying.{CopyFrame, Inside, has_inside, begun, ended, copy_all, copies, last_of, ComesTo, Itself, Below, IsCopyPoint, InNode, next_children, copy_left, CopyingAt, FinePoint}
-use Rattle.move_laws.specs.Moves.{IsNext, NoneLeft, AtPoint, IsStack, Bottom, InBranch, InRound, InCopy}
+use Rattle.move_laws.specs.Moves.{IsNext, NoneLeft, AtPoint, IsStack, Bottom, InBranch, InRound, InNodeCopy}
 use Rattle.move_laws.specs.Copying.{AtStart, AtEnd, Amid, AtFinePoint, FineResume, FinePoints, FinePointStays, CopyBegins, CopySteps, CopyEnds, CopyWaits, CopyFramesStand, InsideHeld}
 use Rattle.tree_laws.proofs.Lists.{In, In-left, In-right, In-filter}
 use Rattle.tree_laws.proofs.Matches.{Grown, Matches-in}
@@ -43,14 +43,14 @@ Binds P env = (x : ℕ) → In (env x) P.nodes
 abbrev FramesBind : Tree → List Frame → Type 0
 FramesBind P [] = Unit {0}
 FramesBind P (Rest d env ∷ fs) = Binds P env × FramesBind P fs
-FramesBind P (Round x y s e env n ∷ fs) = Binds P env × FramesBind P fs
-FramesBind P (Part x env k ∷ fs) = Binds P env × FramesBind P fs
+FramesBind P (LoopRound x y s e env n ∷ fs) = Binds P env × FramesBind P fs
+FramesBind P (CopyPart x env k ∷ fs) = Binds P env × FramesBind P fs
 
 bind_more : (P : Tree) (fs gs : List Frame) → FramesBind P fs → FramesBind P gs → FramesBind P (fs ++ gs)
 bind_more P [] gs h k = k
 bind_more P (Rest d env ∷ fs) gs h k = (h.0, bind_more P fs gs h.1 k)
-bind_more P (Round x y s e env n ∷ fs) gs h k = (h.0, bind_more P fs gs h.1 k)
-bind_more P (Part x env made ∷ fs) gs h k = (h.0, bind_more P fs gs h.1 k)
+bind_more P (LoopRound x y s e env n ∷ fs) gs h k = (h.0, bind_more P fs gs h.1 k)
+bind_more P (CopyPart x env made ∷ fs) gs h k = (h.0, bind_more P fs gs h.1 k)
 
 binds_node : (P : Tree) (env : Env) (x : ℕ) (n : Node) → Binds P env → In n P.nodes → Binds P (bind_var env x n)
 binds_node P env x n b i z = go (eqb z x)
@@ -61,12 +61,12 @@ binds_node P env x n b i z = go (eqb z x)
 
 frames_bind : (P : Tree) (d : BodyTree) (env : Env) (before : List Action) (fs : List Frame) → IsPoint P d env before fs → Binds P env → FramesBind P fs
 frames_bind P d env before fs Begins b = (b, tt)
-frames_bind P d env before fs (Past {d = rest} {before = before'} dn h) b = frames_bind P rest env before' fs h b
+frames_bind P d env before fs (PastItem {d = rest} {before = before'} dn h) b = frames_bind P rest env before' fs h b
 frames_bind P d env before fs (InYes {a = a} {d = rest} {fs = gs} t h) b = bind_more P gs (Rest rest env ∷ []) (frames_bind P a env before gs h b) (b, tt)
 frames_bind P d env before fs (InNo {b = other} {d = rest} {fs = gs} t h) b = bind_more P gs (Rest rest env ∷ []) (frames_bind P other env before gs h b) (b, tt)
 frames_bind P d env before fs (InLoop {x = x} {y = y} {s = s} {e = e} {d = rest} {before = before'} {fs = gs} pre n post m dn h) b =
     let i : In n P.nodes = (Matches-in P (serial_of (env y)) (s ∷ []) n (subst (λ (z : List Node). In n z) (sym m) (In-right n pre (n ∷ post) (inl refl)))).0 in
-    bind_more P gs (Round x y s e env n ∷ Rest rest env ∷ []) (frames_bind P e (bind_var env x n) before' gs h (binds_node P env x n b i)) (b, (b, tt))
+    bind_more P gs (LoopRound x y s e env n ∷ Rest rest env ∷ []) (frames_bind P e (bind_var env x n) before' gs h (binds_node P env x n b i)) (b, (b, tt))
 frames_bind P d env before fs (points.InCopy {x = x} {d = rest} before' more e) b = (b, (b, tt))
 
 module _ (plan : PlanTree) (P : Tree) (k : ℕ) (l : Leads opening P) where
@@ -77,8 +77,8 @@ module _ (plan : PlanTree) (P : Tree) (k : ℕ) (l : Leads opening P) where
   rest_binds : (d : BodyTree) (env : Env) (fs : List Frame) → PointAt plan P k (Rest d env ∷ fs) → Binds P env
   rest_binds d env fs st = (frames_bind P plan.body env0 (so_far plan P k) (Rest d env ∷ fs) st (λ x. root_from P l)).0
 
-  part_binds : (x : ℕ) (env : Env) (made : ℕ) (fs : List Frame) → PointAt plan P k (Part x env made ∷ fs) → Binds P env
-  part_binds x env made fs st = (frames_bind P plan.body env0 (so_far plan P k) (Part x env made ∷ fs) st (λ x. root_from P l)).0
+  part_binds : (x : ℕ) (env : Env) (made : ℕ) (fs : List Frame) → PointAt plan P k (CopyPart x env made ∷ fs) → Binds P env
+  part_binds x env made fs st = (frames_bind P plan.body env0 (so_far plan P k) (CopyPart x env made ∷ fs) st (λ x. root_from P l)).0
 
   -- of a copy behind some actions
   behind_is : (made : List Action) (o whole : Out) → whole ≡ after made o → behind (length made) whole ≡ o
@@ -91,33 +91,33 @@ module _ (plan : PlanTree) (P : Tree) (k : ℕ) (l : Leads opening P) where
       let c : CopyingAt plan P k (f ∷ inner) fs = st in
       let n : Node = c.env c.var in
       let i : In n P.nodes = part_binds c.var c.env (length c.made) fs c.point c.var in
-      resume P w plan.body env0 (so_far plan P k) (Part c.var c.env (length c.made) ∷ fs) c.point
+      resume P w plan.body env0 (so_far plan P k) (CopyPart c.var c.env (length c.made) ∷ fs) c.point
       ∙ ap (λ z. after (so_far plan P k) (seq z (to_come P fs))) (behind_is c.made (copy_left P (f ∷ inner)) (copy_all P n) (goes_on P w n c.made (f ∷ inner) i c.inside))
 
   next_in : (o : Out) (a : Action) (more : List Action) → run plan.body env0 P ≡ after (so_far plan P k) o → o.acts ≡ a ∷ more → IsNext plan P k a
   next_in o a more e f = let t = take_next k (actions plan P) a more (ap (λ (z : Out). z.acts) e ∙ ap (λ z. so_far plan P k ++ z) f) in record { left = t.0; taken = t.1 }
 
   -- one action more of a copy
-  module _ (x : ℕ) (env : Env) (made : List Action) (fs : List Frame) (st : PointAt plan P k (Part x env (length made) ∷ fs)) (a : Action) (o : Out) (is : copy_all P (env x) ≡ after (made ++ a ∷ []) o) where
+  module _ (x : ℕ) (env : Env) (made : List Action) (fs : List Frame) (st : PointAt plan P k (CopyPart x env (length made) ∷ fs)) (a : Action) (o : Out) (is : copy_all P (env x) ≡ after (made ++ a ∷ []) o) where
     left_is : behind (length made) (copy_all P (env x)) ≡ after (a ∷ []) o
     left_is = behind_is made (after (a ∷ []) o) (copy_all P (env x)) (is ∙ sym (after-after made (a ∷ []) o))
 
     pub copy_next : IsNext plan P k a
     copy_next = next_in (seq (after (a ∷ []) o) (to_come P fs)) a (seq o (to_come P fs)).acts
-        (resume P w plan.body env0 (so_far plan P k) (Part x env (length made) ∷ fs) st ∙ ap (λ z. after (so_far plan P k) (seq z (to_come P fs))) left_is)
+        (resume P w plan.body env0 (so_far plan P k) (CopyPart x env (length made) ∷ fs) st ∙ ap (λ z. after (so_far plan P k) (seq z (to_come P fs))) left_is)
         (ap (λ (z : Out). z.acts) (seq-after (a ∷ []) o (to_come P fs)))
 
     length_is : length (made ++ a ∷ []) ≡ suc (length made)
     length_is = length-append made (a ∷ []) ∙ omega arith
 
-    pub copy_more : PointAt plan P (suc k) (Part x env (length (made ++ a ∷ [])) ∷ fs)
+    pub copy_more : PointAt plan P (suc k) (CopyPart x env (length (made ++ a ∷ [])) ∷ fs)
     copy_more =
         let p = copy_on P plan.body env0 (so_far plan P k) x env (length made) fs a o.acts st (ap (λ (z : Out). z.acts) left_is) in
-        subst (λ (z : ℕ). PointAt plan P (suc k) (Part x env z ∷ fs)) (sym length_is)
-        (subst (λ (z : List Action). IsPoint P plan.body env0 z (Part x env (suc (length made)) ∷ fs)) (sym copy_next.taken) p)
+        subst (λ (z : ℕ). PointAt plan P (suc k) (CopyPart x env z ∷ fs)) (sym length_is)
+        (subst (λ (z : List Action). IsPoint P plan.body env0 z (CopyPart x env (suc (length made)) ∷ fs)) (sym copy_next.taken) p)
 
 -- the end of a copy
-copy_done : (plan : PlanTree) (P : Tree) (k : ℕ) (x : ℕ) (env : Env) (made : List Action) (fs : List Frame) → PointAt plan P k (Part x env (length made) ∷ fs) → copy_all P (env x) ≡ at_once made → PointAt plan P k fs
+copy_done : (plan : PlanTree) (P : Tree) (k : ℕ) (x : ℕ) (env : Env) (made : List Action) (fs : List Frame) → PointAt plan P k (CopyPart x env (length made) ∷ fs) → copy_all P (env x) ≡ at_once made → PointAt plan P k fs
 copy_done plan P k x env made fs st e =
     copy_over P plan.body env0 (so_far plan P k) x env (length made) fs st
     (ap (λ (z : Out). drop (length made) z.acts) e ∙ (ap (drop (length made)) (sym (append-nil made)) ∙ drop-append_seam made [])) (ap (λ (z : Out). z.done) e)
@@ -134,7 +134,7 @@ fine_point_stays plan P Q k l m b (f ∷ inner) fs st =
       var = c.var;
       env = c.env;
       made = c.made;
-      point = point_stays plan P Q k l m b (Part c.var c.env (length c.made) ∷ fs) c.point;
+      point = point_stays plan P Q k l m b (CopyPart c.var c.env (length c.made) ∷ fs) c.point;
       inside = subst (λ (z : Tree). IsCopyPoint z (c.env c.var) c.made (f ∷ inner)) (sym h.2) (within_all h.0 P (grown_from P l) (c.env c.var) c.made (f ∷ inner) c.inside);
     }
 
@@ -143,17 +143,17 @@ fine_point_stays plan P Q k l m b (f ∷ inner) fs st =
 abbrev AnyFine : PlanTree → Tree → ℕ → Type 0
 AnyFine plan P k = (inner : List CopyFrame) × (d : BodyTree) × (env : Env) × (below : List Frame) × FinePoint plan P k inner (Rest d env ∷ below)
 
-fine_at : (plan : PlanTree) (P : Tree) (k : ℕ) (x : ℕ) (d : BodyTree) (env : Env) (made : List Action) (below : List Frame) → PointAt plan P k (Part x env (length made) ∷ Rest d env ∷ below) → (inner : List CopyFrame) → IsCopyPoint P (env x) made inner → AnyFine plan P k
+fine_at : (plan : PlanTree) (P : Tree) (k : ℕ) (x : ℕ) (d : BodyTree) (env : Env) (made : List Action) (below : List Frame) → PointAt plan P k (CopyPart x env (length made) ∷ Rest d env ∷ below) → (inner : List CopyFrame) → IsCopyPoint P (env x) made inner → AnyFine plan P k
 fine_at plan P k x d env made below st [] h = absurd (no_frames P (env x) made [] h refl)
   where
     no_frames : (P : Tree) (n : Node) (before : List Action) (fs : List CopyFrame) → IsCopyPoint P n before fs → fs ≡ [] → ⊥
     no_frames P n before fs (InNode pre post c has e dn) f = cc
 fine_at plan P k x d env made below st (f ∷ inner) h = (f ∷ inner, d, env, below, record { var = x; env = env; made = made; point = st; inside = h })
 
-fine_cut : (plan : PlanTree) (P : Tree) (k : ℕ) → Leads opening P → (x : ℕ) (d : BodyTree) (env : Env) (made : ℕ) (below : List Frame) → PointAt plan P k (Part x env made ∷ Rest d env ∷ below) → AnyFine plan P k
+fine_cut : (plan : PlanTree) (P : Tree) (k : ℕ) → Leads opening P → (x : ℕ) (d : BodyTree) (env : Env) (made : ℕ) (below : List Frame) → PointAt plan P k (CopyPart x env made ∷ Rest d env ∷ below) → AnyFine plan P k
 fine_cut plan P k l x d env made below st =
-    let r = copying P plan.body env0 (so_far plan P k) (Part x env made ∷ Rest d env ∷ below) st x env made (Rest d env ∷ below) refl in
-    let st' : PointAt plan P k (Part x env (length r.acts) ∷ Rest d env ∷ below) = subst (λ (z : ℕ). PointAt plan P k (Part x env z ∷ Rest d env ∷ below)) r.made st in
+    let r = copying P plan.body env0 (so_far plan P k) (CopyPart x env made ∷ Rest d env ∷ below) st x env made (Rest d env ∷ below) refl in
+    let st' : PointAt plan P k (CopyPart x env (length r.acts) ∷ Rest d env ∷ below) = subst (λ (z : ℕ). PointAt plan P k (CopyPart x env z ∷ Rest d env ∷ below)) r.made st in
     elim (copy_is_cut P (grown_from P l) (env x) (part_binds plan P k l x env made (Rest d env ∷ below) st x) r.acts r.more r.cut) [
       | AtStart e ↦ (
         [],
@@ -170,8 +170,8 @@ fine_cut plan P k l x d env made below st =
 fine_from : (plan : PlanTree) (P : Tree) (k : ℕ) → Leads opening P → (fs : List Frame) → IsStack env0 fs → PointAt plan P k fs → AnyFine plan P k
 fine_from plan P k l fs (Bottom d) st = ([], d, env0, [], st)
 fine_from plan P k l fs (InBranch a d env gs h) st = ([], a, env, Rest d env ∷ gs, st)
-fine_from plan P k l fs (InRound a e d env x y s n gs h) st = ([], a, bind_var env x n, Round x y s e env n ∷ Rest d env ∷ gs, st)
-fine_from plan P k l fs (InCopy x d env made gs h) st = fine_cut plan P k l x d env made gs st
+fine_from plan P k l fs (InRound a e d env x y s n gs h) st = ([], a, bind_var env x n, LoopRound x y s e env n ∷ Rest d env ∷ gs, st)
+fine_from plan P k l fs (InNodeCopy x d env made gs h) st = fine_cut plan P k l x d env made gs st
 
 pub fine_points : FinePoints
 fine_points plan P l k = let p = point_law plan P k in fine_from plan P k l p.0 (points_are_stacks plan P k p.0 p.1) p.1
@@ -200,7 +200,7 @@ module _ (plan : PlanTree) (P : Tree) (k : ℕ) (x : ℕ) (d : BodyTree) (env : 
       let inside : IsCopyPoint P (env x) (a ∷ []) (Inside (env x) None ∷ []) = within_first (ap has_inside e) (a ∷ []) (ap begun e) in
       let o : Out = copy_left P (Inside (env x) None ∷ []) in
       let is : copy_all P (env x) ≡ after (a ∷ []) o = goes_on P v (env x) (a ∷ []) (Inside (env x) None ∷ []) node_in inside in
-      let st0 : PointAt plan P k (Part x env 0 ∷ Rest d env ∷ fs) = subst (λ (z : List Action). IsPoint P plan.body env0 z (Part x env 0 ∷ Rest d env ∷ fs)) (append-nil (so_far plan P k))
+      let st0 : PointAt plan P k (CopyPart x env 0 ∷ Rest d env ∷ fs) = subst (λ (z : List Action). IsPoint P plan.body env0 z (CopyPart x env 0 ∷ Rest d env ∷ fs)) (append-nil (so_far plan P k))
       (enter_copy P v plan.body env0 (so_far plan P k) x d env [] (copy_all P (env x)).acts fs st.point refl) in (
         copy_next plan P k st.grown x env [] (Rest d env ∷ fs) st0 a o is,
         record { var = x; env = env; made = a ∷ []; point = copy_more plan P k st.grown x env [] (Rest d env ∷ fs) st0 a o is; inside = inside },
@@ -211,7 +211,7 @@ module _ (plan : PlanTree) (P : Tree) (k : ℕ) (x : ℕ) (d : BodyTree) (env : 
     var = x;
     env = env;
     made = [];
-    point = subst (λ (z : List Action). IsPoint P plan.body env0 z (Part x env 0 ∷ Rest d env ∷ fs)) (append-nil (so_far plan P k))
+    point = subst (λ (z : List Action). IsPoint P plan.body env0 z (CopyPart x env 0 ∷ Rest d env ∷ fs)) (append-nil (so_far plan P k))
         (enter_copy P v plan.body env0 (so_far plan P k) x d env [] (copy_all P (env x)).acts fs st.point refl);
     inside = within_first (ap has_inside e) [] (ap begun e);
   }
@@ -366,7 +366,7 @@ held_copy core good plan pl P k cs inner fs c m present j =
     let i : In n P.nodes = copied_in plan P k l inner fs c in
     let q = within_all_lie P w n i c.made inner c.inside m present j in
     let keeps : (a : Node) → In a P.nodes → within (serial_of n) a ≡ true → In a (held plan P (so_far plan P k)) =
-    λ a b h. need_law core good plan pl P k cs (Part c.var c.env (length c.made) ∷ fs) c.point a b (inl h) in (
+    λ a b h. need_law core good plan pl P k cs (CopyPart c.var c.env (length c.made) ∷ fs) c.point a b (inl h) in (
       keeps m q.0 q.1,
       matches_kept P (is_held plan P (so_far plan P k)) (serial_of m) (child_step ∷ []) (λ a b.
           let r = child_in P w m a b in

@@ -4,7 +4,7 @@ use Rattle.std.specs.Prelude.{take}
 use Rattle.std.specs.List.{filter}
 use Rattle.std.proofs.lemmas.List.{append-nil, length-append}
 use Rattle.gcx_base.specs.declared.steps.Step.{Step}
-use Rattle.gcx_model.specs.Tree.{Node, serial_of, Tree, Token, opening, grow, grow_all, is_closed}
+use Rattle.gcx_model.specs.Tree.{Node, serial_of, Tree, TreeToken, opening, grow, grow_all, is_closed}
 use Rattle.gcx_model.specs.Paths.{hits, matches, head, value}
 use Rattle.gcx_model.specs.Core.{PlanTree}
 use Rattle.gcx_model.specs.Run.{Action, Out, run, env0}
@@ -54,7 +54,7 @@ first_kept P keep n path h = ap head (filter_comm (hits n path) keep P.nodes) �
 abbrev Keeps : Tree → Tree → Node → Type 0
 Keeps P Q n = (is_closed Q n ≡ true) × ((path : List Step) → matches Q (serial_of n) path ≡ matches P (serial_of n) path) × (value Q n ≡ value P n)
 
-closed_all : (ts : List Token) (P : Tree) → Grown P → (n : Node) → In n P.nodes → is_closed P n ≡ true → Keeps P (grow_all ts P) n
+closed_all : (ts : List TreeToken) (P : Tree) → Grown P → (n : Node) → In n P.nodes → is_closed P n ≡ true → Keeps P (grow_all ts P) n
 closed_all [] P w n i c = (c, (λ path. refl), refl)
 closed_all (t ∷ ts) P w n i c =
     let l : serial_of n < length P.nodes = let r = Numbered-high 0 P.nodes w.numbered n i in omega arith in

@@ -5,12 +5,12 @@ use Rattle.std.proofs.lemmas.List.{append-nil}
 use Rattle.gcx_base.specs.declared.steps.Step.{Step}
 use Rattle.gcx_model.specs.Tree.{Node, serial_of, Tree, is_closed}
 use Rattle.gcx_model.specs.Paths.{matches}
-use Rattle.gcx_model.specs.Core.{ItemTree, Write, For, If, Off, BodyTree, Nil, Then, PlanTree}
+use Rattle.gcx_model.specs.Core.{ItemTree, Write, For, If, SignOff, BodyTree, Nil, Then, PlanTree}
 use Rattle.gcx_model.specs.Truth.{Env, bind_var}
 use Rattle.gcx_model.specs.Run.{Action, Wrote, Offed, Out, idle, seq, loop, choose, run_item, run, env0}
-use Rattle.gcx_model.specs.Points.{actions, so_far, Frame, Rest, Round, Part, later, body_at, to_come, IsPoint, Begins, Past, InLoop, InYes, InNo, PointAt}
+use Rattle.gcx_model.specs.Points.{actions, so_far, Frame, Rest, LoopRound, CopyPart, later, body_at, to_come, IsPoint, Begins, PastItem, InLoop, InYes, InNo, PointAt}
 use Rattle.gcx_model.specs.Points as points
-use Rattle.move_laws.specs.Moves.{IsNext, NoneLeft, AtPoint, OpeningPoint, WriteMove, OffMove, BranchMove, FirstRound, NoRound, NextRound, LastRound, EmptyRest, BranchWaits, LoopWaits, RoundWaits, AllEmpty, RunIsDone, IsStack, Bottom, InBranch, InRound, InCopy, PointsAreStacks}
+use Rattle.move_laws.specs.Moves.{IsNext, NoneLeft, AtPoint, OpeningPoint, WriteMove, OffMove, BranchMove, FirstRound, NoRound, NextRound, LastRound, EmptyRest, BranchWaits, LoopWaits, RoundWaits, AllEmpty, RunIsDone, IsStack, Bottom, InBranch, InRound, InNodeCopy, PointsAreStacks}
 use Rattle.placed_laws.proofs.PointForms.{resume, after, seq-assoc}
 use Rattle.placed_laws.proofs.Turns.{next_turn, leave_loop, leave_branch, pass_item, enter_loop, enter_yes, enter_no}
 use Rattle.tree_laws.proofs.Fed.{grown_from}
@@ -81,8 +81,8 @@ module _ (plan : PlanTree) (P : Tree) (k : ℕ) where
   all_empty [] h = refl
   all_empty (Rest Nil env ∷ fs) h = ap (seq (idle true)) (all_empty fs h)
   all_empty (Rest (Then i d) env ∷ fs) h = absurd h
-  all_empty (Round x y s e env n ∷ fs) h = absurd h
-  all_empty (Part x env made ∷ fs) h = absurd h
+  all_empty (LoopRound x y s e env n ∷ fs) h = absurd h
+  all_empty (CopyPart x env made ∷ fs) h = absurd h
 
 pub opening_point : OpeningPoint
 opening_point plan P = Begins
@@ -91,7 +91,7 @@ pub write_move : WriteMove
 write_move plan P k b d env fs st = one_action plan P k (Write b) d env fs (Wrote b) refl st
 
 pub off_move : OffMove
-off_move plan P k o d env fs st = one_action plan P k (Off o) d env fs (Offed o (serial_of (env o.base))) refl st
+off_move plan P k o d env fs st = one_action plan P k (SignOff o) d env fs (Offed o (serial_of (env o.base))) refl st
 
 pub branch_move : BranchMove
 branch_move plan P k c a b d env fs st = (
@@ -122,7 +122,7 @@ loop_waits plan P k x y s e d env fs st m c = item_waits plan P k (For x y s e) 
 
 pub round_waits : RoundWaits
 round_waits plan P k v x y s e env n fs st l c =
-    none_left plan P k (Rest Nil v ∷ Round x y s e env n ∷ fs) st false
+    none_left plan P k (Rest Nil v ∷ LoopRound x y s e env n ∷ fs) st false
     (ap (λ z. seq (loop (body_at e x env P) z (is_closed P (env y))) (to_come P fs)) l ∙ ap (λ z. seq (idle z) (to_come P fs)) c)
 
 pub run_is_done : RunIsDone
@@ -134,21 +134,21 @@ on_rest : (d : BodyTree) (env : Env) (fs : List Frame) → IsStack env fs → Is
 on_rest d env fs (Bottom a) = InBranch a d env [] (Bottom d)
 on_rest d env fs (InBranch a e v gs h) = InBranch a e v (gs ++ Rest d env ∷ []) (on_rest d env (Rest e v ∷ gs) h)
 on_rest d env fs (InRound a b e v x y s n gs h) = InRound a b e v x y s n (gs ++ Rest d env ∷ []) (on_rest d env (Rest e v ∷ gs) h)
-on_rest d env fs (InCopy x e v made gs h) = InCopy x e v made (gs ++ Rest d env ∷ []) (on_rest d env (Rest e v ∷ gs) h)
+on_rest d env fs (InNodeCopy x e v made gs h) = InNodeCopy x e v made (gs ++ Rest d env ∷ []) (on_rest d env (Rest e v ∷ gs) h)
 
-on_round : (x y : ℕ) (s : Step) (b d : BodyTree) (env : Env) (n : Node) (fs : List Frame) → IsStack (bind_var env x n) fs → IsStack env (fs ++ Round x y s b env n ∷ Rest d env ∷ [])
+on_round : (x y : ℕ) (s : Step) (b d : BodyTree) (env : Env) (n : Node) (fs : List Frame) → IsStack (bind_var env x n) fs → IsStack env (fs ++ LoopRound x y s b env n ∷ Rest d env ∷ [])
 on_round x y s b d env n fs (Bottom a) = InRound a b d env x y s n [] (Bottom d)
-on_round x y s b d env n fs (InBranch a e v gs h) = InBranch a e v (gs ++ Round x y s b env n ∷ Rest d env ∷ []) (on_round x y s b d env n (Rest e v ∷ gs) h)
-on_round x y s b d env n fs (InRound a c e v z w t m gs h) = InRound a c e v z w t m (gs ++ Round x y s b env n ∷ Rest d env ∷ []) (on_round x y s b d env n (Rest e v ∷ gs) h)
-on_round x y s b d env n fs (InCopy z e v made gs h) = InCopy z e v made (gs ++ Round x y s b env n ∷ Rest d env ∷ []) (on_round x y s b d env n (Rest e v ∷ gs) h)
+on_round x y s b d env n fs (InBranch a e v gs h) = InBranch a e v (gs ++ LoopRound x y s b env n ∷ Rest d env ∷ []) (on_round x y s b d env n (Rest e v ∷ gs) h)
+on_round x y s b d env n fs (InRound a c e v z w t m gs h) = InRound a c e v z w t m (gs ++ LoopRound x y s b env n ∷ Rest d env ∷ []) (on_round x y s b d env n (Rest e v ∷ gs) h)
+on_round x y s b d env n fs (InNodeCopy z e v made gs h) = InNodeCopy z e v made (gs ++ LoopRound x y s b env n ∷ Rest d env ∷ []) (on_round x y s b d env n (Rest e v ∷ gs) h)
 
 is_stack : (P : Tree) (d : BodyTree) (env : Env) (before : List Action) (fs : List Frame) → IsPoint P d env before fs → IsStack env fs
 is_stack P d env before fs Begins = Bottom d
-is_stack P d env before fs (Past {d = rest} {before = b} dn h) = is_stack P rest env b fs h
+is_stack P d env before fs (PastItem {d = rest} {before = b} dn h) = is_stack P rest env b fs h
 is_stack P d env before fs (InLoop {x = x} {y = y} {s = s} {e = e} {d = rest} {before = b} {fs = gs} pre n post m dn h) = on_round x y s e rest env n gs (is_stack P e (bind_var env x n) b gs h)
 is_stack P d env before fs (InYes {a = a} {d = rest} {fs = gs} t h) = on_rest rest env gs (is_stack P a env before gs h)
 is_stack P d env before fs (InNo {b = b} {d = rest} {fs = gs} t h) = on_rest rest env gs (is_stack P b env before gs h)
-is_stack P d env before fs (points.InCopy {x = x} {d = rest} b more e) = InCopy x rest env (length before) [] (Bottom rest)
+is_stack P d env before fs (points.InCopy {x = x} {d = rest} b more e) = InNodeCopy x rest env (length before) [] (Bottom rest)
 
 pub points_are_stacks : PointsAreStacks
 points_are_stacks plan P k fs st = is_stack P plan.body env0 (so_far plan P k) fs st

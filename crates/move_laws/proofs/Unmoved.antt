@@ -6,7 +6,7 @@ use Rattle.std.proofs.lemmas.List.{append-nil, length-append}
 use Rattle.std.proofs.lemmas.List.Elements.{filter-append}
 use Rattle.std.proofs.lemmas.Bool.{and_parts, lt-ltb, le-ltb}
 use Rattle.gcx_base.specs.declared.steps.Step.{Step}
-use Rattle.gcx_model.specs.Tree.{Node, serial_of, Tree, Token, End, opening, grow, grow_at, is_open_at}
+use Rattle.gcx_model.specs.Tree.{Node, serial_of, Tree, TreeToken, End, opening, grow, grow_at, is_open_at}
 use Rattle.gcx_model.specs.Paths.{hits, matches}
 use Rattle.gcx_model.specs.Members.{In, count}
 use Rattle.gcx_model.specs.Nodes.{Grown}
@@ -19,7 +19,7 @@ use Rattle.gcx_model.specs.Placed.{Placed, plan_of}
 use Rattle.gcx_model.specs.Held.{path_of, given, live, is_live, roles_given, roles_live, taken}
 use Rattle.gcx_model.specs.Growth.{Leads, stays, more, may_come}
 use Rattle.gcx_model.specs.Needs.{Needs}
-use Rattle.gcx_model.specs.Points.{actions, so_far, CoreState, fed, Frame, Rest, Round, Part, later, behind, to_come, IsPoint, PointAt}
+use Rattle.gcx_model.specs.Points.{actions, so_far, CoreState, fed, Frame, Rest, LoopRound, CopyPart, later, behind, to_come, IsPoint, PointAt}
 use Rattle.move_laws.specs.Moves.{NoneLeft}
 use Rattle.gcx_model.specs.Past.{Opens}
 use Rattle.base_laws.proofs.Members.{filter_all}
@@ -62,11 +62,11 @@ none_there x xs e i = subst (λ (z : List _). In x z) e i
 
 -- the parent's node of a round is one of the tree
 parent_in : (core : BodyTree) → Good core → (plan : PlanTree) → Placed core plan → (P : Tree) (k : ℕ) → CoreState plan P k → (top below : List Frame) (x y : ℕ) (s : Step) (e : BodyTree) (env : Env) (n : Node)
-    → PointAt plan P k (top ++ Round x y s e env n ∷ below) → In (env y) P.nodes
-parent_in core good plan pl P k r top below x y s e env n = from_state core good (λ plan P k. PointAt plan P k (top ++ Round x y s e env n ∷ below) → In (env y) P.nodes)
-    (λ ts k st. (over.below_hit core good ts k top below (Round x y s e env n) st y (env y) (over.parent_bound core good ts k top below x y s e env n st)).0) plan pl P k r
+    → PointAt plan P k (top ++ LoopRound x y s e env n ∷ below) → In (env y) P.nodes
+parent_in core good plan pl P k r top below x y s e env n = from_state core good (λ plan P k. PointAt plan P k (top ++ LoopRound x y s e env n ∷ below) → In (env y) P.nodes)
+    (λ ts k st. (over.below_hit core good ts k top below (LoopRound x y s e env n) st y (env y) (over.parent_bound core good ts k top below x y s e env n st)).0) plan pl P k r
 
-module _ (core : BodyTree) (good : Good core) (plan : PlanTree) (pl : Placed core plan) (P : Tree) (l : Leads opening P) (t : Token) (may : may_come t P ≡ true) where
+module _ (core : BodyTree) (good : Good core) (plan : PlanTree) (pl : Placed core plan) (P : Tree) (l : Leads opening P) (t : TreeToken) (may : may_come t P ≡ true) where
   abbrev Q : Tree
   Q = grow t P
 
@@ -144,7 +144,7 @@ module _ (core : BodyTree) (good : Good core) (plan : PlanTree) (pl : Placed cor
         let ms = matches_same (serial_of (env y)) (s ∷ []) (λ j i. olds gs (on gs st') j (Matches-in Q (serial_of (env y)) (s ∷ []) j i).0 (inl (inr i))) in
         loop_waits plan Q k x y s e d env below (record { grown = grown_Q; point = on gs st' }) (ms ∙ m) (ap not (same gs st' (env y) inside (inl (inl refl))) ∙ o)
     still fs st (AtRound v x y s e env n below f m o) =
-        let gs : List Frame = Rest Nil v ∷ Round x y s e env n ∷ below in
+        let gs : List Frame = Rest Nil v ∷ LoopRound x y s e env n ∷ below in
         let st' : PointAt plan P k gs = subst (λ (z : List Frame). PointAt plan P k z) f st in
         let inside : In (env y) P.nodes = parent_in core good plan pl P k state (Rest Nil v ∷ []) below x y s e env n st' in
         let path : List Step = s ∷ [] in
@@ -156,7 +156,7 @@ module _ (core : BodyTree) (good : Good core) (plan : PlanTree) (pl : Placed cor
         later_in : (n : Node) (j : ℕ) (path : List Step) (m : Node) → In m (later n (matches Q j path)) → In m Q.nodes
         later_in n j path m i = (Matches-in Q j path m (In-filter (λ (z : Node). ltb (serial_of n) (serial_of z)) m (matches Q j path) i).0).0
     still fs st (AtCopy x env made below e o) =
-        let gs : List Frame = Part x env made ∷ below in
+        let gs : List Frame = CopyPart x env made ∷ below in
         let st' : PointAt plan P k gs = subst (λ (z : List Frame). PointAt plan P k z) e st in
         let w : Grown P = grown_from P l in
         let inside : In (env x) P.nodes = (copy_bound_law core good plan pl P k state [] below x env made st').0 in
@@ -208,7 +208,7 @@ module _ (core : BodyTree) (good : Good core) (plan : PlanTree) (pl : Placed cor
   closed_quiet p e at g = unmoved olds same
     where
       none_new : added t P ≡ []
-      none_new = ap (λ (z : Token). added z P) e ∙ end_nodes P.at P
+      none_new = ap (λ (z : TreeToken). added z P) e ∙ end_nodes P.at P
 
       olds : NeedsOld
       olds fs st m i q = elim (old_or_new m i) [
@@ -225,7 +225,7 @@ module _ (core : BodyTree) (good : Good core) (plan : PlanTree) (pl : Placed cor
         where
           go : (serial_of p ≡ serial_of m → ⊥) → is_open_at Q.at (serial_of m) ≡ is_open_at P.at (serial_of m)
           go n =
-              ap (λ (z : Token). is_open_at (grow z P).at (serial_of m)) e
+              ap (λ (z : TreeToken). is_open_at (grow z P).at (serial_of m)) e
               ∙ (ap (λ (z : Option Node). is_open_at (grow_at z End P).at (serial_of m)) at
               ∙ (others_kept p P (serial_of m) n ∙ ap (λ (z : Option Node). is_open_at z (serial_of m)) (sym at)))
 

@@ -3,12 +3,12 @@ use Rattle.std.specs.Prelude.{◌≡◌, ℕ, suc, ◌<◌, ◌≤◌, Bool, tru
 use Rattle.gcx_base.specs.declared.steps.Step.{Step}
 use Rattle.gcx_model.specs.Tree.{Node, serial_of, Tree, opening, is_closed}
 use Rattle.gcx_model.specs.Paths.{matches}
-use Rattle.gcx_model.specs.Core.{CondTree, OffTree, Write, For, If, Off, BodyTree, Nil, Then, PlanTree}
+use Rattle.gcx_model.specs.Core.{CondTree, OffTree, Write, For, If, SignOff, BodyTree, Nil, Then, PlanTree}
 use Rattle.gcx_model.specs.declared.truth.Truth.TheVariants.{True, False, Unknown}
 use Rattle.gcx_model.specs.Truth.{Env, bind_var, truth}
 use Rattle.gcx_model.specs.Run.{Action, Wrote, Offed, run, env0}
 use Rattle.gcx_model.specs.Growth.{Leads}
-use Rattle.gcx_model.specs.Points.{actions, so_far, Frame, Rest, Round, Part, later, PointAt}
+use Rattle.gcx_model.specs.Points.{actions, so_far, Frame, Rest, LoopRound, CopyPart, later, PointAt}
 
 -- behind k actions of the run this one is the next
 pub record IsNext (plan : PlanTree) (P : Tree) (k : ℕ) (a : Action) : Type 0 where
@@ -38,7 +38,7 @@ WriteMove = (plan : PlanTree) (P : Tree) (k : ℕ) (b : List ℕ) (d : BodyTree)
 -- A statement is carried out at the node of its base: that is the next action.
 abbrev pub OffMove : Type 0
 OffMove = (plan : PlanTree) (P : Tree) (k : ℕ) (o : OffTree) (d : BodyTree) (env : Env) (fs : List Frame)
-    → AtPoint plan P k (Rest (Then (Off o) d) env ∷ fs) → IsNext plan P k (Offed o (serial_of (env o.base))) × PointAt plan P (suc k) (Rest d env ∷ fs)
+    → AtPoint plan P k (Rest (Then (SignOff o) d) env ∷ fs) → IsNext plan P k (Offed o (serial_of (env o.base))) × PointAt plan P (suc k) (Rest d env ∷ fs)
 
 -- A condition is true, or false: that branch is taken, with no action.
 abbrev pub BranchMove : Type 0
@@ -50,7 +50,7 @@ BranchMove = (plan : PlanTree) (P : Tree) (k : ℕ) (c : CondTree) (a b d : Body
 abbrev pub FirstRound : Type 0
 FirstRound = (plan : PlanTree) (P : Tree) (k : ℕ) (x y : ℕ) (s : Step) (e d : BodyTree) (env : Env) (fs : List Frame) (n : Node) (post : List Node)
     → AtPoint plan P k (Rest (Then (For x y s e) d) env ∷ fs) → matches P (serial_of (env y)) (s ∷ []) ≡ n ∷ post
-    → PointAt plan P k (Rest e (bind_var env x n) ∷ Round x y s e env n ∷ Rest d env ∷ fs)
+    → PointAt plan P k (Rest e (bind_var env x n) ∷ LoopRound x y s e env n ∷ Rest d env ∷ fs)
 
 -- It has none, and none comes: it is over, with no action.
 abbrev pub NoRound : Type 0
@@ -61,13 +61,13 @@ NoRound = (plan : PlanTree) (P : Tree) (k : ℕ) (x y : ℕ) (s : Step) (e d : B
 -- A round's body is over, and the loop has a later match: the body begins again with the first of these, with no action.
 abbrev pub NextRound : Type 0
 NextRound = (plan : PlanTree) (P : Tree) (k : ℕ) (v : Env) (x y : ℕ) (s : Step) (e : BodyTree) (env : Env) (n : Node) (fs : List Frame) (m : Node) (post : List Node)
-    → AtPoint plan P k (Rest Nil v ∷ Round x y s e env n ∷ fs) → later n (matches P (serial_of (env y)) (s ∷ [])) ≡ m ∷ post
-    → PointAt plan P k (Rest e (bind_var env x m) ∷ Round x y s e env m ∷ fs)
+    → AtPoint plan P k (Rest Nil v ∷ LoopRound x y s e env n ∷ fs) → later n (matches P (serial_of (env y)) (s ∷ [])) ≡ m ∷ post
+    → PointAt plan P k (Rest e (bind_var env x m) ∷ LoopRound x y s e env m ∷ fs)
 
 -- It has none, and none comes: the loop is over, with no action.
 abbrev pub LastRound : Type 0
 LastRound = (plan : PlanTree) (P : Tree) (k : ℕ) (v : Env) (x y : ℕ) (s : Step) (e : BodyTree) (env : Env) (n : Node) (fs : List Frame)
-    → AtPoint plan P k (Rest Nil v ∷ Round x y s e env n ∷ fs) → later n (matches P (serial_of (env y)) (s ∷ [])) ≡ [] → is_closed P (env y) ≡ true
+    → AtPoint plan P k (Rest Nil v ∷ LoopRound x y s e env n ∷ fs) → later n (matches P (serial_of (env y)) (s ∷ [])) ≡ [] → is_closed P (env y) ≡ true
     → PointAt plan P k fs
 
 -- An empty rest above another one, as at the end of a branch, goes, with no action. Above a round it is the end of its body, and goes with the next round or the last one.
@@ -88,15 +88,15 @@ LoopWaits = (plan : PlanTree) (P : Tree) (k : ℕ) (x y : ℕ) (s : Step) (e d :
 -- and where it has no later one yet.
 abbrev pub RoundWaits : Type 0
 RoundWaits = (plan : PlanTree) (P : Tree) (k : ℕ) (v : Env) (x y : ℕ) (s : Step) (e : BodyTree) (env : Env) (n : Node) (fs : List Frame)
-    → AtPoint plan P k (Rest Nil v ∷ Round x y s e env n ∷ fs) → later n (matches P (serial_of (env y)) (s ∷ [])) ≡ [] → is_closed P (env y) ≡ false → NoneLeft plan P k false
+    → AtPoint plan P k (Rest Nil v ∷ LoopRound x y s e env n ∷ fs) → later n (matches P (serial_of (env y)) (s ∷ [])) ≡ [] → is_closed P (env y) ≡ false → NoneLeft plan P k false
 
 -- each frame is an empty rest
 abbrev pub AllEmpty : List Frame → Type 0
 AllEmpty [] = Unit {0}
 AllEmpty (Rest Nil env ∷ fs) = AllEmpty fs
 AllEmpty (Rest (Then i d) env ∷ fs) = ⊥
-AllEmpty (Round x y s e env n ∷ fs) = ⊥
-AllEmpty (Part x env made ∷ fs) = ⊥
+AllEmpty (LoopRound x y s e env n ∷ fs) = ⊥
+AllEmpty (CopyPart x env made ∷ fs) = ⊥
 
 -- Where only empty rests are left, no action is left, and the run is done.
 abbrev pub RunIsDone : Type 0
@@ -106,8 +106,8 @@ RunIsDone = (plan : PlanTree) (P : Tree) (k : ℕ) (fs : List Frame) → AtPoint
 pub data IsStack (outer : Env) : List Frame → Type 0 where
   Bottom : (d : BodyTree) → IsStack outer (Rest d outer ∷ [])
   InBranch : (a d : BodyTree) (env : Env) (fs : List Frame) → IsStack outer (Rest d env ∷ fs) → IsStack outer (Rest a env ∷ Rest d env ∷ fs)
-  InRound : (a e d : BodyTree) (env : Env) (x y : ℕ) (s : Step) (n : Node) (fs : List Frame) → IsStack outer (Rest d env ∷ fs) → IsStack outer (Rest a (bind_var env x n) ∷ Round x y s e env n ∷ Rest d env ∷ fs)
-  InCopy : (x : ℕ) (d : BodyTree) (env : Env) (made : ℕ) (fs : List Frame) → IsStack outer (Rest d env ∷ fs) → IsStack outer (Part x env made ∷ Rest d env ∷ fs)
+  InRound : (a e d : BodyTree) (env : Env) (x y : ℕ) (s : Step) (n : Node) (fs : List Frame) → IsStack outer (Rest d env ∷ fs) → IsStack outer (Rest a (bind_var env x n) ∷ LoopRound x y s e env n ∷ Rest d env ∷ fs)
+  InNodeCopy : (x : ℕ) (d : BodyTree) (env : Env) (made : ℕ) (fs : List Frame) → IsStack outer (Rest d env ∷ fs) → IsStack outer (CopyPart x env made ∷ Rest d env ∷ fs)
 
 -- So it is at each point.
 abbrev pub PointsAreStacks : Type 0

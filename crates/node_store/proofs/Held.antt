@@ -7,8 +7,8 @@ use Rattle.std.proofs.lemmas.Bool.{cases_eq, eq-eqb, ne_eqb}
 use Rattle.std.proofs.lemmas.List.{append-nil, append_assoc, get_or_past}
 use Rattle.std.proofs.lemmas.List.Folds.{list_any-append}
 use Rattle.std.proofs.lemmas.List.Sums.{sum_by-cons}
-use Rattle.node_store.specs.Rows.{Entry, Rows, leaf, with_child, without_child, with_payload, changed_at, planted, appended, unlinked, left_by, head_of, last_of, before, after, children_in, children_of, parent_of, is_listed, Distinct, IsTree}
-use Rattle.node_store.specs.Links.{Linked, Cells, cell_at, next_in, siblings, entry_in, rows_from, rows_of, linked_at, Holds, altered, put, fresh_cell, with_last, with_paid, joined, IsSound}
+use Rattle.node_store.specs.Rows.{StoreRow, Rows, leaf, with_child, without_child, with_payload, changed_at, planted, appended, unlinked, left_by, head_of, last_of, before, after, children_in, children_of, parent_of, is_listed, Distinct, IsTree}
+use Rattle.node_store.specs.Links.{Linked, Cells, linked_cell, next_in, siblings, entry_in, rows_from, rows_of, linked_at, Holds, altered, put, fresh_cell, with_last, with_paid, joined, IsSound}
 use Rattle.node_store.proofs.Siblings.{head_listed, or_right, left_fresh, right_fresh, after_self, after_around, before_at, before_same, head_same, last_same, last_right, split_at, without_parts, distinct_push, distinct_without, short}
 use Rattle.node_store.proofs.Maps.{get_same, get_other, gone_other, same_rows, len_new, some_row, parent_at, child_at, no_row, used_child}
 use Rattle.node_store.proofs.Trees as trees
@@ -22,19 +22,19 @@ module _ {T : Type 0} where
   none_before all k (None ∷ cells) q lt = none_before all (k + 1) cells q (omega arith)
   none_before all k (Some m ∷ cells) q lt = get_other _ k (entry_in all m) q (λ e. absurd (omega arith)) ∙ none_before all (k + 1) cells q (omega arith)
 
-  get_from : (all : Cells T) (k : ℕ) (cells : Cells T) (i : ℕ) → get (rows_from all k cells) (k + i) ≡ option_map (entry_in all) (cell_at cells i)
+  get_from : (all : Cells T) (k : ℕ) (cells : Cells T) (i : ℕ) → get (rows_from all k cells) (k + i) ≡ option_map (entry_in all) (linked_cell cells i)
   get_from all k [] i = get-empty nat_cmp (k + i)
   get_from all k (None ∷ cells) zero = none_before all (k + 1) cells (k + 0) (omega arith)
   get_from all k (None ∷ cells) (suc i) = ap (get (rows_from all (k + 1) cells)) (omega arith) ∙ get_from all (k + 1) cells i
   get_from all k (Some m ∷ cells) zero = get_same _ k (entry_in all m) (k + 0) (omega arith)
   get_from all k (Some m ∷ cells) (suc i) = get_other _ k (entry_in all m) (k + suc i) (λ e. absurd (omega arith)) ∙ ap (get (rows_from all (k + 1) cells)) (omega arith) ∙ get_from all (k + 1) cells i
 
-  pub get_row : (cells : Cells T) (q : ℕ) → get (rows_of cells) q ≡ option_map (entry_in cells) (cell_at cells q)
+  pub get_row : (cells : Cells T) (q : ℕ) → get (rows_of cells) q ≡ option_map (entry_in cells) (linked_cell cells q)
   unfolding rows_of
   get_row cells q = ap (get (rows_from cells 0 cells)) (omega arith) ∙ get_from cells 0 cells q
 
   len_from : (all : Cells T) (k : ℕ) (cells : Cells T) → len (rows_from all k cells) ≡ count_by is_some cells
-  len_from all k [] = len-empty nat_cmp (Entry T)
+  len_from all k [] = len-empty nat_cmp (StoreRow T)
   len_from all k (None ∷ cells) = omega (arith, len_from all (k + 1) cells, sum_by-cons (λ (o : Option (Linked T)). cond (is_some o) 1 0) None cells)
   len_from all k (Some m ∷ cells) =
       let more = trees_len all k m cells in
@@ -48,11 +48,11 @@ module _ {T : Type 0} where
   unfolding rows_of
   len_rows cells = len_from cells 0 cells
 
-  within : (cells : Cells T) (p : ℕ) → IsSome (cell_at cells p) → p < length cells
+  within : (cells : Cells T) (p : ℕ) → IsSome (linked_cell cells p) → p < length cells
   within cells p some = grind (arith, get_or_past)
 
-  module _ (cells : Cells T) (rows : Rows T) (root : Option ℕ) (holds : Holds rows (cell_at cells)) (t : IsTree rows root) where
-    in_cells : (p : ℕ) (e : Entry T) → get rows p ≡ Some e → cell_at cells p ≡ Some (linked_at rows p e)
+  module _ (cells : Cells T) (rows : Rows T) (root : Option ℕ) (holds : Holds rows (linked_cell cells)) (t : IsTree rows root) where
+    in_cells : (p : ℕ) (e : StoreRow T) → get rows p ≡ Some e → linked_cell cells p ≡ Some (linked_at rows p e)
     in_cells p e is = holds p ∙ ap (option_map (linked_at rows p)) is
 
     low : (p : ℕ) → IsSome (get rows p) → p < length cells
@@ -61,7 +61,7 @@ module _ {T : Type 0} where
         within cells p (subst (λ o. IsSome o) (sym (in_cells p e.0 e.1)) (search rules))
 
     -- the links lead along the children
-    along : (q : ℕ) (d : Entry T) → get rows q ≡ Some d → (n : ℕ) (pre post : List ℕ) → d.children ≡ pre ++ post → length post ≤ n
+    along : (q : ℕ) (d : StoreRow T) → get rows q ≡ Some d → (n : ℕ) (pre post : List ℕ) → d.children ≡ pre ++ post → length post ≤ n
         → siblings n cells (head_of post) ≡ post
     along q d has zero pre [] is le = refl
     along q d has zero pre (c ∷ cs) is le = absurd (omega arith)
@@ -73,15 +73,15 @@ module _ {T : Type 0} where
         let under : e.0.parent ≡ Some q = sym (parent_at rows c e.0 e.1) ∙ up in
         let lists : children_of rows e.0.parent ≡ pre ++ c ∷ cs = ap (children_of rows) under ∙ ap children_in has ∙ is in
         let once : Distinct (pre ++ c ∷ cs) = subst Distinct is (t.once q d has) in
-        let link : next_in (cell_at cells c) ≡ head_of cs =
+        let link : next_in (linked_cell cells c) ≡ head_of cs =
         ap next_in (in_cells c e.0 e.1) ∙ ap (after c) lists ∙ after_self c pre cs (left_fresh c pre cs once) in
         ap (λ o. c ∷ siblings n cells o) link
         ∙ ap (λ l. c ∷ l) (along q d has n (pre ++ c ∷ []) cs (is ∙ sym (append_assoc pre (c ∷ []) cs)) (omega arith))
 
-    few : (q : ℕ) (d : Entry T) → get rows q ≡ Some d → length d.children ≤ length cells
+    few : (q : ℕ) (d : StoreRow T) → get rows q ≡ Some d → length d.children ≤ length cells
     few q d has = short d.children (length cells) (t.once q d has) (λ k listed. low k (used_child rows k q (t.down k q (child_at rows q k d has ∙ listed))))
 
-    same_entry : (q : ℕ) (o : Option (Entry T)) → get rows q ≡ o → option_map (entry_in cells) (option_map (linked_at rows q) o) ≡ o
+    same_entry : (q : ℕ) (o : Option (StoreRow T)) → get rows q ≡ o → option_map (entry_in cells) (option_map (linked_at rows q) o) ≡ o
     same_entry q None is = refl
     same_entry q (Some d) is =
         ap (λ cs. Some (record { parent = d.parent; children = cs; payload = d.payload })) (along q d is (length cells) [] d.children refl (few q d is))
@@ -93,7 +93,7 @@ module _ {T : Type 0} where
     pub sound_of : (most : ℕ) → len rows ≤ most → IsSound cells root most
     sound_of most fits =
         record {
-          holds = subst (λ m. Holds m (cell_at cells)) (sym rows_is) holds;
+          holds = subst (λ m. Holds m (linked_cell cells)) (sym rows_is) holds;
           tree = subst (λ m. IsTree m root) (sym rows_is) t;
           within = subst (λ m. len m ≤ most) (sym rows_is) fits;
         }
@@ -119,7 +119,7 @@ module _ {T : Type 0} where
 
   -- ---- append
 
-  module _ (rows : Rows T) (root : Option ℕ) (q k : ℕ) (x : T) (e : Entry T) (has : get rows q ≡ Some e) (free : get rows k ≡ None) (t : IsTree rows root)
+  module _ (rows : Rows T) (root : Option ℕ) (q k : ℕ) (x : T) (e : StoreRow T) (has : get rows q ≡ Some e) (free : get rows k ≡ None) (t : IsTree rows root)
       (cells : ℕ → Option (Linked T)) (holds : Holds rows cells) (prev : Option ℕ) where
     abbrev new : Rows T
     new = insert (insert rows k (leaf (Some q) x)) q (with_child k e)
@@ -173,7 +173,7 @@ module _ {T : Type 0} where
       | inr both ↦ ap (before p) (both.0 ∙ sym (append-nil e.children)) ∙ sym (ap (before p) both.1 ∙ before_same p k e.children [] d (λ h. absurd (cc)))
     ]
 
-    abbrev NearAt : ℕ → Entry T → Linked T → Type 0
+    abbrev NearAt : ℕ → StoreRow T → Linked T → Type 0
     NearAt p y m = Near q (last_of e.children) (Some k) p m (linked_at new p y)
 
     near_new : (p : ℕ) → p ≡ k → Stands (NearAt p (leaf (Some q) x)) (torn p)
@@ -198,7 +198,7 @@ module _ {T : Type 0} where
           last = λ n. sym (last_right e.children (k ∷ []) (λ h. absurd (cc)));
         })
 
-    near_other : (p : ℕ) (y : Entry T) → p ≢ q → p ≢ k → get rows p ≡ Some y → Stands (NearAt p y) (torn p)
+    near_other : (p : ℕ) (y : StoreRow T) → p ≢ q → p ≢ k → get rows p ≡ Some y → Stands (NearAt p y) (torn p)
     near_other p y nq nk is = stands (linked_at rows p y) (torn_at p _ nq (put_other k p _ cells nk ∙ holds p ∙ ap (option_map (linked_at rows p)) is))
         (record {
           parent = refl;
@@ -209,7 +209,7 @@ module _ {T : Type 0} where
           last = λ n. refl;
         })
 
-    near : (p : ℕ) (y : Entry T) → get new p ≡ Some y → Stands (NearAt p y) (torn p)
+    near : (p : ℕ) (y : StoreRow T) → get new p ≡ Some y → Stands (NearAt p y) (torn p)
     near p y is = elim (cases_eq p q) [
       | inl pq ↦
           let some : Some (with_child k e) ≡ Some y = sym upper ∙ ap (get new) (sym pq) ∙ is in
@@ -236,7 +236,7 @@ module _ {T : Type 0} where
     holds_new : Holds new (joined (Some q) (last_of e.children) (Some k) torn)
     holds_new p = go (get new p) refl
       where
-        go : (o : Option (Entry T)) → get new p ≡ o → joined (Some q) (last_of e.children) (Some k) torn p ≡ option_map (linked_at new p) o
+        go : (o : Option (StoreRow T)) → get new p ≡ o → joined (Some q) (last_of e.children) (Some k) torn p ≡ option_map (linked_at new p) o
         go None is = joined_dead (Some q) (last_of e.children) (Some k) p torn (torn_dead p is)
         go (Some y) is =
             joined_at q p (last_of e.children) (Some k) torn (linked_at new p y)
@@ -249,7 +249,7 @@ module _ {T : Type 0} where
 
   -- ---- unlink
 
-  module _ (rows : Rows T) (root : Option ℕ) (k : ℕ) (e : Entry T) (has : get rows k ≡ Some e) (childless : e.children ≡ []) (t : IsTree rows root)
+  module _ (rows : Rows T) (root : Option ℕ) (k : ℕ) (e : StoreRow T) (has : get rows k ≡ Some e) (childless : e.children ≡ []) (t : IsTree rows root)
       (cells : ℕ → Option (Linked T)) (holds : Holds rows cells) where
     abbrev gone : ℕ → Option (Linked T)
     gone = put k None cells
@@ -269,7 +269,7 @@ module _ {T : Type 0} where
         (holds_empty (joined None prev next gone) (λ p. joined_dead None prev next p gone (top_gone p top)))
 
     -- of a child
-    module _ (q : ℕ) (under : parent_of rows k ≡ Some q) (d : Entry T) (above : get rows q ≡ Some d)
+    module _ (q : ℕ) (under : parent_of rows k ≡ Some q) (d : StoreRow T) (above : get rows q ≡ Some d)
         (pre post : List ℕ) (parts : d.children ≡ pre ++ k ∷ post) where
       abbrev less : Rows T
       less = insert (remove rows k) q (without_child k d)
@@ -314,10 +314,10 @@ module _ {T : Type 0} where
         | inr both ↦ ap (before p) both.0 ∙ before_same p k pre post nk n ∙ sym (ap (before p) both.1)
       ]
 
-      abbrev LeftAt : ℕ → Entry T → Linked T → Type 0
+      abbrev LeftAt : ℕ → StoreRow T → Linked T → Type 0
       LeftAt p y m = Near q (last_of pre) (head_of post) p m (linked_at less p y)
 
-      was_at : (p : ℕ) (y : Entry T) → p ≢ k → get rows p ≡ Some y → gone p ≡ Some (linked_at rows p y)
+      was_at : (p : ℕ) (y : StoreRow T) → p ≢ k → get rows p ≡ Some y → gone p ≡ Some (linked_at rows p y)
       was_at p y nk is = put_other k p None cells nk ∙ holds p ∙ ap (option_map (linked_at rows p)) is
 
       left_upper : (p : ℕ) → p ≡ q → Stands (LeftAt p (without_child k d)) (gone p)
@@ -333,7 +333,7 @@ module _ {T : Type 0} where
             last = λ n. ap last_of parts ∙ last_same k pre post (λ none. n (pq, none)) ∙ sym (ap last_of kept);
           })
 
-      left_other : (p : ℕ) (y : Entry T) → p ≢ k → get rows p ≡ Some y → Stands (LeftAt p y) (gone p)
+      left_other : (p : ℕ) (y : StoreRow T) → p ≢ k → get rows p ≡ Some y → Stands (LeftAt p y) (gone p)
       left_other p y nk is = stands (linked_at rows p y) (was_at p y nk is)
           (record {
             parent = refl;
@@ -344,7 +344,7 @@ module _ {T : Type 0} where
             last = λ n. refl;
           })
 
-      left_near : (p : ℕ) (y : Entry T) → get less p ≡ Some y → Stands (LeftAt p y) (gone p)
+      left_near : (p : ℕ) (y : StoreRow T) → get less p ≡ Some y → Stands (LeftAt p y) (gone p)
       left_near p y is = elim (cases_eq p q) [
         | inl pq ↦
             let some : Some (without_child k d) ≡ Some y = sym less_upper ∙ ap (get less) (sym pq) ∙ is in
@@ -368,7 +368,7 @@ module _ {T : Type 0} where
       holds_less : Holds less (joined (Some q) (last_of pre) (head_of post) gone)
       holds_less p = go (get less p) refl
         where
-          go : (o : Option (Entry T)) → get less p ≡ o → joined (Some q) (last_of pre) (head_of post) gone p ≡ option_map (linked_at less p) o
+          go : (o : Option (StoreRow T)) → get less p ≡ o → joined (Some q) (last_of pre) (head_of post) gone p ≡ option_map (linked_at less p) o
           go None is = joined_dead (Some q) (last_of pre) (head_of post) p gone (left_dead p is)
           go (Some y) is =
               joined_at q p (last_of pre) (head_of post) gone (linked_at less p y)
@@ -392,7 +392,7 @@ module _ {T : Type 0} where
     pub holds_unlinked : Holds (unlinked rows k) (joined (linked_at rows k e).parent (linked_at rows k e).prev (linked_at rows k e).next gone)
     holds_unlinked = subst (λ a. Holds (unlinked rows k) (joined a (before k (children_of rows a)) (after k (children_of rows a)) gone)) (parent_at rows k e has) (go (parent_of rows k) refl)
       where
-        at_row : (q : ℕ) → parent_of rows k ≡ Some q → (o : Option (Entry T)) → get rows q ≡ o
+        at_row : (q : ℕ) → parent_of rows k ≡ Some q → (o : Option (StoreRow T)) → get rows q ≡ o
             → Holds (changed_at (without_child k) q (remove rows k)) (joined (Some q) (before k (children_of rows (Some q))) (after k (children_of rows (Some q))) gone)
         at_row q under None none = no_row rows k q none (t.up k q under)
         at_row q under (Some d) above =
@@ -405,7 +405,7 @@ module _ {T : Type 0} where
 
   -- ---- a written payload
 
-  module _ (rows : Rows T) (root : Option ℕ) (k : ℕ) (e : Entry T) (has : get rows k ≡ Some e) (x : T) (cells : ℕ → Option (Linked T)) (holds : Holds rows cells) where
+  module _ (rows : Rows T) (root : Option ℕ) (k : ℕ) (e : StoreRow T) (has : get rows k ≡ Some e) (x : T) (cells : ℕ → Option (Linked T)) (holds : Holds rows cells) where
     abbrev paid : Rows T
     paid = insert rows k (with_payload x e)
 
@@ -413,10 +413,10 @@ module _ {T : Type 0} where
     paid_lists None = refl
     paid_lists (Some a) = trees.alike rows root k e has x children_in refl a
 
-    other_cell : (p : ℕ) (y : Entry T) → linked_at rows p y ≡ linked_at paid p y
+    other_cell : (p : ℕ) (y : StoreRow T) → linked_at rows p y ≡ linked_at paid p y
     other_cell p y = same_cell _ _ refl refl refl (ap (before p) (sym (paid_lists y.parent))) (ap (after p) (sym (paid_lists y.parent))) refl
 
-    paid_cell : (p : ℕ) (y : Entry T) → with_paid x (linked_at rows p y) ≡ linked_at paid p (with_payload x y)
+    paid_cell : (p : ℕ) (y : StoreRow T) → with_paid x (linked_at rows p y) ≡ linked_at paid p (with_payload x y)
     paid_cell p y = ap (with_paid x) (other_cell p y)
 
     at_insert : Holds paid (altered (with_paid x) k cells)
@@ -433,7 +433,7 @@ module _ {T : Type 0} where
           ∙ sym (ap (option_map (linked_at paid p)) (get_other rows k (with_payload x e) p nk))
     ]
       where
-        each : (o : Option (Entry T)) → option_map (linked_at rows p) o ≡ option_map (linked_at paid p) o
+        each : (o : Option (StoreRow T)) → option_map (linked_at rows p) o ≡ option_map (linked_at paid p) o
         each None = refl
         each (Some y) = ap Some (other_cell p y)
 

@@ -5,7 +5,7 @@ use Rattle.std.proofs.lemmas.List.{append-nil}
 use Rattle.std.proofs.lemmas.List.Folds.{list_any-append}
 use Rattle.std.specs.FinMap.{get}
 use Rattle.std.proofs.lemmas.Bool.{cases_eq, eq-eqb, ne_eqb}
-use Rattle.node_store.specs.Rows.{Entry, Rows, head_of, last_of, before, after, children_in, children_of, parent_of, is_listed, Distinct, LinksDown}
+use Rattle.node_store.specs.Rows.{StoreRow, Rows, head_of, last_of, before, after, children_in, children_of, parent_of, is_listed, Distinct, LinksDown}
 use Rattle.node_store.specs.Links.{Linked, linked_at, altered, with_first, with_last, with_prev, with_next, right_set, left_set, joined}
 use Rattle.node_store.proofs.Siblings.{after_end, before_at, left_fresh, right_fresh, distinct_left, last_listed, head_listed, no_last, no_head, or_right}
 use Rattle.node_store.proofs.Maps.{parent_at, child_at}
@@ -138,8 +138,8 @@ module _ {T : Type 0} where
   -- ---- the seam in the rows
 
   -- rows whose row q has the children `pre` and `post` have their two ends meet there
-  pub meets : (rows : Rows T) (q : ℕ) (d : Entry T) (pre post : List ℕ) → get rows q ≡ Some d → d.children ≡ pre ++ post → Distinct (pre ++ post) → LinksDown rows
-      → (p : ℕ) (e : Entry T) → get rows p ≡ Some e → Meets q (last_of pre) (head_of post) p (linked_at rows p e)
+  pub meets : (rows : Rows T) (q : ℕ) (d : StoreRow T) (pre post : List ℕ) → get rows q ≡ Some d → d.children ≡ pre ++ post → Distinct (pre ++ post) → LinksDown rows
+      → (p : ℕ) (e : StoreRow T) → get rows p ≡ Some e → Meets q (last_of pre) (head_of post) p (linked_at rows p e)
   meets rows q d pre post has parts once down p e is =
       record { next = next_is; prev = prev_is post refl; first = first_is; last = last_is }
     where

@@ -9,8 +9,8 @@ use Rattle.slab.specs.Slab as slab
 use Rattle.slab.proofs.SlabLemmas.{Updates-with_value}
 use Rattle.std.proofs.lemmas.Bool.{cases_eq, eq-eqb, ne_eqb}
 use Rattle.node_store.specs.declared.slab_nodes.Cell.{Cell}
-use Rattle.node_store.specs.Rows.{Entry, Rows, with_payload, changed_at, planted, appended, unlinked, last_of, children_of, parent_of, is_listed, IsTree}
-use Rattle.node_store.specs.Links.{Linked, cell_at, rows_of, linked_at, Holds, altered, put, fresh_cell, with_last, with_paid, joined, IsSound}
+use Rattle.node_store.specs.Rows.{StoreRow, Rows, with_payload, changed_at, planted, appended, unlinked, last_of, children_of, parent_of, is_listed, IsTree}
+use Rattle.node_store.specs.Links.{Linked, linked_cell, rows_of, linked_at, Holds, altered, put, fresh_cell, with_last, with_paid, joined, IsSound}
 use Rattle.node_store.specs.declared.store.Place.{Place}
 use Rattle.node_store.specs.Slots.{index_of, linked_of, cells_of, links}
 use Rattle.node_store.proofs.Maps.{some_row, is_there, parent_at, child_at, used_parent, used_child}
@@ -24,7 +24,7 @@ count_mapped {X} {Y} f (None ∷ xs) = omega (arith, count_mapped f xs, sum_by-c
 count_mapped {X} {Y} f (Some x ∷ xs) = omega (arith, count_mapped f xs, sum_by-cons (λ (o : Option X). cond (is_some o) 1 0) (Some x) xs, sum_by-cons (λ (o : Option Y). cond (is_some o) 1 0) (Some (f x)) (map (option_map f) xs))
 
 module _ {T : Type 0} where
-  pub cell_links : (s : Slab (Cell T)) (p : ℕ) → cell_at (cells_of s) p ≡ links s p
+  pub cell_links : (s : Slab (Cell T)) (p : ℕ) → linked_cell (cells_of s) p ≡ links s p
   cell_links s p = get_or-map (option_map linked_of) s.slots p None
 
   pub len_slots : (s : Slab (Cell T)) → len (rows_of (cells_of s)) ≡ slab_len s
@@ -37,7 +37,7 @@ module _ {T : Type 0} where
 
   pub tells : (s : Slab (Cell T)) (rows : Rows T) (root : Option ℕ) → Holds rows (links s) → IsTree rows root → Tells s rows root
   tells s rows root holds t =
-      let held : Holds rows (cell_at (cells_of s)) = λ p. cell_links s p ∙ holds p in
+      let held : Holds rows (linked_cell (cells_of s)) = λ p. cell_links s p ∙ holds p in
       let are = rows_is (cells_of s) rows root held t in
       record {
         rows_are = are;
@@ -63,7 +63,7 @@ module _ {T : Type 0} where
     row_free k none = get_row (cells_of s) k ∙ ap (option_map _) (cell_links s k ∙ none)
 
     pub told_appended : (s' : Slab (Cell T)) (q k : ℕ) (prev last : Option ℕ) (x : T) → IsSome (get rows q) → links s k ≡ None
-        → ((e : Entry T) → get rows q ≡ Some e → last ≡ last_of e.children)
+        → ((e : StoreRow T) → get rows q ≡ Some e → last ≡ last_of e.children)
         → links s' ≡ joined (Some q) last (Some k) (altered (with_last (Some k)) q (put k (Some (fresh_cell (Some q) prev x)) (links s)))
         → Tells s' (appended rows q k x) root
     told_appended s' q k prev last x used none lasts is =
@@ -74,7 +74,7 @@ module _ {T : Type 0} where
         (holds_appended rows root q k x e.0 e.1 free sound.tree (links s) held prev))
         (tree_appended rows root q k x e.0 e.1 free sound.tree)
 
-    pub told_unlinked : (s' : Slab (Cell T)) (k : ℕ) (m : Linked T) (e : Entry T) → get rows k ≡ Some e → e.children ≡ [] → links s k ≡ Some m
+    pub told_unlinked : (s' : Slab (Cell T)) (k : ℕ) (m : Linked T) (e : StoreRow T) → get rows k ≡ Some e → e.children ≡ [] → links s k ≡ Some m
         → links s' ≡ joined m.parent m.prev m.next (put k None (links s))
         → Tells s' (unlinked rows k) (cond (is_some (parent_of rows k)) root None)
     told_unlinked s' k m e has childless there is =
@@ -100,7 +100,7 @@ module _ {T : Type 0} (s : Slab (Cell T)) (root : Option ℕ) (most : ℕ) (soun
   here = rows_of (cells_of s)
 
   -- a cell in use keeps its row
-  pub cell_is : (q : ℕ) (c : Cell T) → slab.get s q ≡ Some c → IsSome (get here q) → (e : Entry T) × (get here q ≡ Some e) × (linked_of c ≡ linked_at here q e)
+  pub cell_is : (q : ℕ) (c : Cell T) → slab.get s q ≡ Some c → IsSome (get here q) → (e : StoreRow T) × (get here q ≡ Some e) × (linked_of c ≡ linked_at here q e)
   cell_is q c there used =
       let e = some_row (get here q) used in
       let some : Some (linked_of c) ≡ Some (linked_at here q e.0) =
@@ -191,7 +191,7 @@ module _ {T : Type 0} (s : Slab (Cell T)) (root : Option ℕ) (most : ℕ) (soun
   some_index None = refl
   some_index (Some p) = refl
 
-  module _ (taken after_join : Slab (Cell T)) (k : ℕ) (c : Cell T) (leaf : (e : Entry T) × (get (rows_of (cells_of s)) k ≡ Some e) × (e.children ≡ []))
+  module _ (taken after_join : Slab (Cell T)) (k : ℕ) (c : Cell T) (leaf : (e : StoreRow T) × (get (rows_of (cells_of s)) k ≡ Some e) × (e.children ≡ []))
       (there : slab.get s k ≡ Some c) (u : slab.Updates s taken k None) (len_taken : slab_len taken + 1 ≡ slab_len s)
       (joins : links after_join ≡ joined (index_of c.parent) (index_of c.prev) (index_of c.next) (links taken)) (len_joined : slab_len after_join ≡ slab_len taken) where
     told_left : Tells after_join (unlinked (rows_of (cells_of s)) k) (cond (is_some (parent_of (rows_of (cells_of s)) k)) root None)

@@ -6,7 +6,7 @@ use Rattle.std.specs.Cmp.{nat_cmp_total}
 use Rattle.std.specs.FinMap.{empty, get, insert, remove, len, len-remove, empty_of_len, get-empty}
 use Rattle.std.proofs.lemmas.Bool.{cases_eq, eq-eqb, eqb-true, ne_eqb, or_cases}
 use Rattle.std.proofs.lemmas.List.Folds.{list_any-append}
-use Rattle.node_store.specs.Rows.{Entry, Rows, leaf, with_child, without_child, with_payload, changed_at, planted, appended, unlinked, left_by, parent_of, children_in, is_child, is_listed, Distinct, LinksUp, LinksDown, Rises, IsTree}
+use Rattle.node_store.specs.Rows.{StoreRow, Rows, leaf, with_child, without_child, with_payload, changed_at, planted, appended, unlinked, left_by, parent_of, children_in, is_child, is_listed, Distinct, LinksUp, LinksDown, Rises, IsTree}
 use Rattle.node_store.proofs.Siblings.{or_false, both_true, false_of, distinct_push, distinct_without, listed_without}
 use Rattle.node_store.proofs.Maps.{get_same, get_other, gone_same, gone_other, same_rows, changed_some, len_new, len_old, is_there, nowhere, parent_at, child_at, no_row, no_parent, used_child}
 
@@ -17,8 +17,8 @@ module _ {T : Type 0} where
   tree_empty =
       record {
         top = λ p e. absurd (cc);
-        up = λ r a is. no_parent (empty {X = Entry T} {R = nat_cmp}) r a (get-empty nat_cmp r) is;
-        down = λ r a is. no_row (empty {X = Entry T} {R = nat_cmp}) r a (get-empty nat_cmp a) is;
+        up = λ r a is. no_parent (empty {X = StoreRow T} {R = nat_cmp}) r a (get-empty nat_cmp r) is;
+        down = λ r a is. no_row (empty {X = StoreRow T} {R = nat_cmp}) r a (get-empty nat_cmp a) is;
         once = λ p e is. let bad : None ≡ Some e = sym (get-empty nat_cmp p) ∙ is in absurd (cc);
         rises = λ p some. nowhere empty p (get-empty nat_cmp p) some;
       }
@@ -66,7 +66,7 @@ module _ {T : Type 0} where
 
   -- ---- a last child
 
-  module _ (rows : Rows T) (root : Option ℕ) (q p : ℕ) (x : T) (e : Entry T) (has : get rows q ≡ Some e) (free : get rows p ≡ None) where
+  module _ (rows : Rows T) (root : Option ℕ) (q p : ℕ) (x : T) (e : StoreRow T) (has : get rows q ≡ Some e) (free : get rows p ≡ None) where
     abbrev one : Rows T
     one = insert rows p (leaf (Some q) x)
 
@@ -150,7 +150,7 @@ module _ {T : Type 0} where
       ]
     ]
 
-    once_two : IsTree rows root → (r : ℕ) (d : Entry T) → get two r ≡ Some d → Distinct d.children
+    once_two : IsTree rows root → (r : ℕ) (d : StoreRow T) → get two r ≡ Some d → Distinct d.children
     once_two t r d is = elim (cases_eq r q) [
       | inl rq ↦
           let some : Some (with_child p e) ≡ Some d = sym upper ∙ ap (get two) (sym rq) ∙ is in
@@ -180,7 +180,7 @@ module _ {T : Type 0} where
       ]
     ]
 
-    top_two : IsTree rows root → (r : ℕ) → root ≡ Some r → (d : Entry T) × (get two r ≡ Some d) × (d.parent ≡ None)
+    top_two : IsTree rows root → (r : ℕ) → root ≡ Some r → (d : StoreRow T) × (get two r ≡ Some d) × (d.parent ≡ None)
     top_two t r is =
         let was = t.top r is in
         elim (cases_eq r q) [
@@ -205,7 +205,7 @@ module _ {T : Type 0} where
 
   -- ---- a leaf
 
-  module _ (rows : Rows T) (root : Option ℕ) (p : ℕ) (e : Entry T) (has : get rows p ≡ Some e) (childless : e.children ≡ []) (t : IsTree rows root) where
+  module _ (rows : Rows T) (root : Option ℕ) (p : ℕ) (e : StoreRow T) (has : get rows p ≡ Some e) (childless : e.children ≡ []) (t : IsTree rows root) where
     -- the leaf is nobody's parent
     pub no_child : (r : ℕ) → is_child rows p r ≡ true → {X : Type 0} → X
     no_child r is =
@@ -234,12 +234,12 @@ module _ {T : Type 0} where
         | inr np ↦ gone_other rows p r np ∙ none r (get rows r) refl np ∙ sym (get-empty nat_cmp r)
       ])
         where
-          none : (r : ℕ) (o : Option (Entry T)) → get rows r ≡ o → r ≢ p → o ≡ None
+          none : (r : ℕ) (o : Option (StoreRow T)) → get rows r ≡ o → r ≢ p → o ≡ None
           none r None is d = refl
           none r (Some y) is d = let up = t.rises r (is_there rows r y is) in absurd (d (only up.0 r up.1))
 
     -- ---- of a child
-    module _ (q : ℕ) (under : parent_of rows p ≡ Some q) (d : Entry T) (above : get rows q ≡ Some d) where
+    module _ (q : ℕ) (under : parent_of rows p ≡ Some q) (d : StoreRow T) (above : get rows q ≡ Some d) where
       abbrev three : Rows T
       three = remove rows p
 
@@ -303,7 +303,7 @@ module _ {T : Type 0} where
         ]
       ]
 
-      once_four : (r : ℕ) (y : Entry T) → get four r ≡ Some y → Distinct y.children
+      once_four : (r : ℕ) (y : StoreRow T) → get four r ≡ Some y → Distinct y.children
       once_four r y is = elim (cases_eq r q) [
         | inl rq ↦
             let some : Some (without_child p d) ≡ Some y = sym four_upper ∙ ap (get four) (sym rq) ∙ is in
@@ -329,7 +329,7 @@ module _ {T : Type 0} where
         ]
       ]
 
-      top_four : (r : ℕ) → root ≡ Some r → (y : Entry T) × (get four r ≡ Some y) × (y.parent ≡ None)
+      top_four : (r : ℕ) → root ≡ Some r → (y : StoreRow T) × (get four r ≡ Some y) × (y.parent ≡ None)
       top_four r is =
           let was = t.top r is in
           elim (cases_eq r q) [
@@ -350,7 +350,7 @@ module _ {T : Type 0} where
     pub tree_unlinked : IsTree (unlinked rows p) (cond (is_some (parent_of rows p)) root None)
     tree_unlinked = go (parent_of rows p) refl
       where
-        at_row : (q : ℕ) → parent_of rows p ≡ Some q → (o : Option (Entry T)) → get rows q ≡ o → IsTree (changed_at (without_child p) q (remove rows p)) root
+        at_row : (q : ℕ) → parent_of rows p ≡ Some q → (o : Option (StoreRow T)) → get rows q ≡ o → IsTree (changed_at (without_child p) q (remove rows p)) root
         at_row q under None none = no_row rows p q none (t.up p q under)
         at_row q under (Some d) above = subst (λ m. IsTree m root) (sym (four_is q under d above)) (tree_four q under d above)
 
@@ -373,7 +373,7 @@ module _ {T : Type 0} where
             let more = some in
             omega (arith, less)
 
-        at_row : (q : ℕ) → parent_of rows p ≡ Some q → (o : Option (Entry T)) → get rows q ≡ o → len (changed_at (without_child p) q (remove rows p)) ≡ len (remove rows p)
+        at_row : (q : ℕ) → parent_of rows p ≡ Some q → (o : Option (StoreRow T)) → get rows q ≡ o → len (changed_at (without_child p) q (remove rows p)) ≡ len (remove rows p)
         at_row q under None none = no_row rows p q none (t.up p q under)
         at_row q under (Some d) above = ap len (four_is q under d above) ∙ len_old (remove rows p) q (without_child p d) d (gone_other rows p q (away q under d above) ∙ above)
 
@@ -383,7 +383,7 @@ module _ {T : Type 0} where
 
   -- ---- a written payload
 
-  module _ (rows : Rows T) (root : Option ℕ) (p : ℕ) (e : Entry T) (has : get rows p ≡ Some e) (x : T) where
+  module _ (rows : Rows T) (root : Option ℕ) (p : ℕ) (e : StoreRow T) (has : get rows p ≡ Some e) (x : T) where
     abbrev paid : Rows T
     paid = insert rows p (with_payload x e)
 
@@ -394,7 +394,7 @@ module _ {T : Type 0} where
     paid_others r np = get_other rows p (with_payload x e) r np
 
     -- what the payload doesn't tell stays
-    pub alike : {X : Type 0} (f : Option (Entry T) → X) → f (Some (with_payload x e)) ≡ f (Some e) → (r : ℕ) → f (get paid r) ≡ f (get rows r)
+    pub alike : {X : Type 0} (f : Option (StoreRow T) → X) → f (Some (with_payload x e)) ≡ f (Some e) → (r : ℕ) → f (get paid r) ≡ f (get rows r)
     alike f same r = elim (cases_eq r p) [
       | inl rp ↦ ap f (get_same rows p (with_payload x e) r rp) ∙ same ∙ ap f (sym has) ∙ ap (λ k. f (get rows k)) (sym rp)
       | inr np ↦ ap f (paid_others r np)
@@ -453,7 +453,7 @@ module _ {T : Type 0} where
   pub no_rows : (rows : Rows T) (root : Option ℕ) → IsTree rows root → root ≡ None → rows ≡ empty
   no_rows rows root t none = same_rows rows empty (λ p. go p (get rows p) refl ∙ sym (get-empty nat_cmp p))
     where
-      go : (p : ℕ) (o : Option (Entry T)) → get rows p ≡ o → get rows p ≡ None
+      go : (p : ℕ) (o : Option (StoreRow T)) → get rows p ≡ o → get rows p ≡ None
       go p None is = is
       go p (Some e) is =
           let up = t.rises p (is_there rows p e is) in

@@ -2,7 +2,7 @@
 -- store's model speak of it, and no clause of a public call. All definitions here are this project's.
 use Rattle.std.specs.Prelude.{◌≡◌, ◌==◌, ◌≤◌, ◌+◌, ℕ, zero, suc, List, [], ◌∷◌, length, Option, Some, None, if◌then◌else◌, option_map, slice_index_or}
 use Rattle.std.specs.FinMap as map
-use Rattle.node_store.specs.Rows.{Entry, Rows, head_of, last_of, after, before, children_of, IsTree}
+use Rattle.node_store.specs.Rows.{StoreRow, Rows, head_of, last_of, after, before, children_of, IsTree}
 
 -- a row as its cell keeps it: a link to the parent, the first and the last child and both siblings
 pub record Linked (T : Type 0) : Type 0 where
@@ -18,8 +18,8 @@ abbrev pub Cells : Type 0 → Type 0
 Cells T = List (Option (Linked T))
 
 module _ {T : Type 0} where
-  abbrev pub cell_at : Cells T → ℕ → Option (Linked T)
-  cell_at cells p = slice_index_or cells p None
+  abbrev pub linked_cell : Cells T → ℕ → Option (Linked T)
+  linked_cell cells p = slice_index_or cells p None
 
   abbrev pub next_in : Option (Linked T) → Option ℕ
   next_in None = None
@@ -29,9 +29,9 @@ module _ {T : Type 0} where
   abbrev pub siblings : ℕ → Cells T → Option ℕ → List ℕ
   siblings zero cells place = []
   siblings (suc n) cells None = []
-  siblings (suc n) cells (Some p) = p ∷ siblings n cells (next_in (cell_at cells p))
+  siblings (suc n) cells (Some p) = p ∷ siblings n cells (next_in (linked_cell cells p))
 
-  abbrev pub entry_in : Cells T → Linked T → Entry T
+  abbrev pub entry_in : Cells T → Linked T → StoreRow T
   entry_in cells m = record { parent = m.parent; children = siblings (length cells) cells m.first; payload = m.payload }
 
   -- the rows of these cells, the first of which has the place k
@@ -44,7 +44,7 @@ module _ {T : Type 0} where
   rows_of cells = rows_from cells 0 cells
 
   -- the row e at p as a cell keeps it
-  abbrev pub linked_at : Rows T → ℕ → Entry T → Linked T
+  abbrev pub linked_at : Rows T → ℕ → StoreRow T → Linked T
   linked_at rows p e =
       record {
         parent = e.parent;
@@ -104,6 +104,6 @@ module _ {T : Type 0} where
 
 -- what holds of a store's cells: they hold rows that form one tree or none, and the rows are at most `most`
 pub record IsSound {T : Type 0} (cells : Cells T) (root : Option ℕ) (most : ℕ) : Type 0 where
-  pub holds : Holds (rows_of cells) (cell_at cells)
+  pub holds : Holds (rows_of cells) (linked_cell cells)
   pub tree : IsTree (rows_of cells) root
   pub within : map.len (rows_of cells) ≤ most

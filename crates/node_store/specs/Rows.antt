@@ -5,14 +5,14 @@ use Rattle.std.specs.Ordering.{nat_cmp}
 use Rattle.std.specs.Coded.{Coded, code_by, coded×, coded_ℕ, coded_list, coded_option}
 use Rattle.std.specs.FinMap as map
 
-pub record Entry (T : Type 0) : Type 0 where
+pub record StoreRow (T : Type 0) : Type 0 where
   pub parent : Option ℕ
   pub children : List ℕ
   pub payload : T
 
 -- the rows of a store, each under its place
 abbrev pub Rows : Type 0 → Type 0
-Rows T = map.FinMap nat_cmp (Entry T)
+Rows T = map.FinMap nat_cmp (StoreRow T)
 
 -- the first and the last of a list of children
 abbrev pub head_of : List ℕ → Option ℕ
@@ -46,28 +46,28 @@ Distinct [] = Unit {0}
 Distinct (c ∷ cs) = (is_listed c cs ≡ false) × Distinct cs
 
 module _ {T : Type 0} where
-  abbrev pub leaf : Option ℕ → T → Entry T
+  abbrev pub leaf : Option ℕ → T → StoreRow T
   leaf parent payload = record { parent = parent; children = []; payload = payload }
 
-  abbrev pub with_child : ℕ → Entry T → Entry T
+  abbrev pub with_child : ℕ → StoreRow T → StoreRow T
   with_child k e = record e { children = e.children ++ k ∷ [] }
 
-  abbrev pub without_child : ℕ → Entry T → Entry T
+  abbrev pub without_child : ℕ → StoreRow T → StoreRow T
   without_child k e = record e { children = filter (λ c. not (c == k)) e.children }
 
-  abbrev pub with_payload : T → Entry T → Entry T
+  abbrev pub with_payload : T → StoreRow T → StoreRow T
   with_payload x e = record e { payload = x }
 
   -- the payload changed by f
-  abbrev pub paid_by : (T → T) → Entry T → Entry T
+  abbrev pub paid_by : (T → T) → StoreRow T → StoreRow T
   paid_by f e = record e { payload = f e.payload }
 
   -- the row at q changed by f, where there is one
-  abbrev pub changed : (Entry T → Entry T) → ℕ → Rows T → Option (Entry T) → Rows T
+  abbrev pub changed : (StoreRow T → StoreRow T) → ℕ → Rows T → Option (StoreRow T) → Rows T
   changed f q rows None = rows
   changed f q rows (Some e) = map.insert rows q (f e)
 
-  abbrev pub changed_at : (Entry T → Entry T) → ℕ → Rows T → Rows T
+  abbrev pub changed_at : (StoreRow T → StoreRow T) → ℕ → Rows T → Rows T
   changed_at f q rows = changed f q rows (map.get rows q)
 
   -- `plant`
@@ -89,7 +89,7 @@ module _ {T : Type 0} where
   abbrev pub unlinked : Rows T → ℕ → Rows T
   unlinked rows p = left_by (map.remove rows p) p (parent_of rows p)
 
-  abbrev pub children_in : Option (Entry T) → List ℕ
+  abbrev pub children_in : Option (StoreRow T) → List ℕ
   children_in None = []
   children_in (Some e) = e.children
 
@@ -124,10 +124,10 @@ module _ {T : Type 0} where
 -- lists of children agree, no child is listed twice, and from each row the parents lead up to the root. So there is no
 -- row where `root` is None, no other row without a parent, and no ring of rows.
 pub record IsTree {T : Type 0} (rows : Rows T) (root : Option ℕ) : Type 0 where
-  pub top : (p : ℕ) → root ≡ Some p → (e : Entry T) × (map.get rows p ≡ Some e) × (e.parent ≡ None)
+  pub top : (p : ℕ) → root ≡ Some p → (e : StoreRow T) × (map.get rows p ≡ Some e) × (e.parent ≡ None)
   pub up : LinksUp rows
   pub down : LinksDown rows
-  pub once : (p : ℕ) (e : Entry T) → map.get rows p ≡ Some e → Distinct e.children
+  pub once : (p : ℕ) (e : StoreRow T) → map.get rows p ≡ Some e → Distinct e.children
   pub rises : (p : ℕ) → IsSome (map.get rows p) → (n : ℕ) × Rises rows root n p
 
 -- all that a contract sees of a store: its rows, its root, and the greatest number of rows so far
@@ -136,7 +136,7 @@ pub record Seen (T : Type 0) : Type 0 where
   pub root : Option ℕ
   pub most : ℕ
 
-abbrev pub entry_code : {T : Type 0} → Coded T → Coded (Entry T)
+abbrev pub entry_code : {T : Type 0} → Coded T → Coded (StoreRow T)
 entry_code {T} code =
     code_by
     (Option ℕ × (List ℕ × T))

@@ -1,6 +1,6 @@
 -- The cells that a slab's slots hold. This follows the code: private functions and the model of `SlabNodes` speak of it.
 use Rattle.std.specs.Prelude.{ℕ, Option, map, option_map}
-use Rattle.slab.specs.Slab.{Slab, get}
+use Rattle.slab.specs.Slab.{Slab, get as slab_get}
 use Rattle.node_store.specs.Links.{Linked, Cells}
 use Rattle.node_store.specs.declared.slab_nodes.Cell.{Cell}
 use Rattle.node_store.specs.declared.store.Place.{Place}
@@ -25,4 +25,4 @@ module _ {T : Type 0} where
 
   -- the cell at a place
   abbrev pub links : Slab (Cell T) → ℕ → Option (Linked T)
-  links s p = option_map linked_of (get s p)
+  links s p = option_map linked_of (slab_get s p)

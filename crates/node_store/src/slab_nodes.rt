@@ -1,7 +1,7 @@
 //! A store over `slab`.
 ghost use Rattle.std.specs.Prelude.{◌≡◌, ◌+◌, ℕ, Option, Some, None, IfOk, IfErr, OnOk, OnErr, IsSome, option_map, []};
 ghost use Rattle.std.specs.FinMap as map;
-ghost use Rattle.slab.specs.Slab.{get, slab_len, ContainsKey};
+ghost use Rattle.slab.specs.Slab.{get as slab_get, slab_len, ContainsKey};
 ghost use Rattle.node_store.specs.Rows.{changed_at, with_payload};
 ghost use Rattle.node_store.specs.Links.{altered, put, fresh_cell, right_set, left_set, joined, with_first, with_last, with_prev, with_next};
 ghost use Rattle.node_store.specs.Slots.{index_of, linked_of, links};
@@ -210,7 +210,7 @@ fn add<T>(
 
 fn cell_at<T>(cells: &Slab<Cell<T>>, place: Place) -> &Cell<T>
     requires { ContainsKey cells.now place.0 }
-    ensures { get cells.now place.0 ≡ Some result.now }
+    ensures { slab_get cells.now place.0 ≡ Some result.now }
 {
     match cells.get(place.0) {
         Some(cell) => cell,

@@ -2,7 +2,7 @@
 ghost use Rattle.std.specs.Prelude.{◌≡◌, ◌≤◌, ℕ, List, Option, Some, None, IfOk, IfErr, OnOk, OnErr, IfSome, IsSome, max, option_map, is_some, if◌then◌else◌, []};
 ghost use Rattle.std.specs.FinMap as map;
 ghost use Rattle.std.specs.Borrow.{Lends, sem};
-ghost use Rattle.node_store.specs.Rows.{Entry, Rows, IsTree, planted, appended, unlinked, parent_of, next_of, prev_of, head_of, last_of, children_in, changed_at, with_payload};
+ghost use Rattle.node_store.specs.Rows.{StoreRow, Rows, IsTree, planted, appended, unlinked, parent_of, next_of, prev_of, head_of, last_of, children_in, changed_at, with_payload};
 
 use thiserror::Error;
 
@@ -63,8 +63,8 @@ pub trait NodeStore<T> {
     /// Takes a row without children out, and hands out its payload. The cell links to both siblings, so at most four
     /// cells are written, however many siblings there are. No memory is taken.
     fn unlink_leaf(&mut self, place: Place) -> T
-        requires { (e : Entry T) × (map.get (rows self.old) place.0 ≡ Some e) × (e.children ≡ []) }
-        ensures payload { (e : Entry T) → map.get (rows self.old) place.0 ≡ Some e → result ≡ e.payload }
+        requires { (e : StoreRow T) × (map.get (rows self.old) place.0 ≡ Some e) × (e.children ≡ []) }
+        ensures payload { (e : StoreRow T) → map.get (rows self.old) place.0 ≡ Some e → result ≡ e.payload }
         ensures rows { rows self.new ≡ unlinked (rows self.old) place.0 }
         ensures most { most_held self.new ≡ most_held self.old }
         ensures root { root_of self.new ≡ (if is_some (parent_of (rows self.old) place.0) then root_of self.old else None) }
@@ -75,7 +75,7 @@ pub trait NodeStore<T> {
     fn drop_leaf(&mut self, place: Place)
     where
         T: Drop,
-        requires { (e : Entry T) × (map.get (rows self.old) place.0 ≡ Some e) × (e.children ≡ []) }
+        requires { (e : StoreRow T) × (map.get (rows self.old) place.0 ≡ Some e) × (e.children ≡ []) }
         ensures rows { rows self.new ≡ unlinked (rows self.old) place.0 }
         ensures most { most_held self.new ≡ most_held self.old }
         ensures root { root_of self.new ≡ (if is_some (parent_of (rows self.old) place.0) then root_of self.old else None) }

@@ -6,7 +6,7 @@ use Rattle.gcx_base.specs.declared.rel.Rel.TheVariants.{Eq, Ne, Lt, Le, Gt, Ge}
 use Rattle.gcx_model.specs.Tree.{Node, serial_of, Tree, is_closed}
 use Rattle.gcx_model.specs.Paths.{matches}
 use Rattle.gcx_model.specs.Members.{In}
-use Rattle.gcx_model.specs.Core.{OperandTree, Path, Str, Num, CondTree, CondTrees, Always, Exists, Compare, Not, All, Any, no_cond, more_conds, ItemTree, Write, Copy, For, If, Off, BodyTree, Nil, Then}
+use Rattle.gcx_model.specs.Core.{OperandTree, Path, Str, Num, CondTree, CondTrees, Always, Exists, Compare, Not, AllOf, AnyOf, no_cond, more_conds, ItemTree, Write, Copy, For, If, SignOff, BodyTree, Nil, Then}
 use Rattle.gcx_model.specs.declared.truth.Truth.{Truth}
 use Rattle.gcx_model.specs.declared.truth.Truth.TheVariants.{True, False, Unknown}
 use Rattle.gcx_model.specs.Truth.{Env, bind_var, settled_values, is_over, settle, negate, both, either, truth, truth_all, truth_any}
@@ -41,8 +41,8 @@ mutual
   known P env (Exists x steps) h e = settle_known _ _ h e
   known P env (Compare l rel r) h e = settle_known _ _ (and_from _ _ h.0 h.1) e
   known P env (Not c) h e = negate_known _ (known P env c h) e
-  known P env (All cs) h e = all_known P env cs h e
-  known P env (Any cs) h e = any_known P env cs h e
+  known P env (AllOf cs) h e = all_known P env cs h e
+  known P env (AnyOf cs) h e = any_known P env cs h e
 
   all_known : (P : Tree) (env : Env) (cs : CondTrees) → AreSettled P env cs → truth_all cs env P ≡ Unknown → ⊥
   all_known P env no_cond h e = cc
@@ -76,8 +76,8 @@ mutual
   asks_false P env l r (Exists x steps) a h e = absurd a
   asks_false P env l r (Compare left rel right) a h e = equal_false P env l r left right rel a e
   asks_false P env l r (Not c) a h e = absurd a
-  asks_false P env l r (All cs) a h e = some_false P env l r cs a h e
-  asks_false P env l r (Any cs) a h e = absurd a
+  asks_false P env l r (AllOf cs) a h e = some_false P env l r cs a h e
+  asks_false P env l r (AnyOf cs) a h e = absurd a
 
   some_false : (P : Tree) (env : Env) (l r : OperandTree) (cs : CondTrees) → SomeAsksEqual l r cs → AreSettled P env cs → truth (Compare l Eq r) env P ≡ False → truth_all cs env P ≡ False
   some_false P env l r no_cond a h e = absurd a
@@ -121,7 +121,7 @@ mutual
   quiet_item P l r (If c a b) env g h e =
       ap (λ k. choose k (run a env P) (run b env P)) (asks_false P env l r c g.0 h e)
       ∙ ap (λ (z : BodyTree). run z env P) g.1
-  quiet_item P l r (Off o) env g h e = absurd g
+  quiet_item P l r (SignOff o) env g h e = absurd g
 
   quiet : (P : Tree) (l r : OperandTree) (d : BodyTree) (env : Env) → IsGuarded l r d → IsBodySettled P env d → truth (Compare l Eq r) env P ≡ False → IsQuiet d env P
   quiet P l r Nil env g h e = refl

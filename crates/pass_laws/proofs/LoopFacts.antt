@@ -3,9 +3,9 @@ use Rattle.std.proofs.Common.{◌≡◌, ◌<◌, ℕ, Bool, true, false, List, 
 use Rattle.std.proofs.lemmas.List.{append-nil}
 use Rattle.std.proofs.lemmas.Bool.{eq-eqb}
 use Rattle.gcx_base.specs.declared.steps.Step.{Step}
-use Rattle.gcx_model.specs.Tree.{Node, serial_of, Tree, Token}
+use Rattle.gcx_model.specs.Tree.{Node, serial_of, Tree, TreeToken}
 use Rattle.gcx_model.specs.Paths.{matches}
-use Rattle.gcx_model.specs.Core.{Write, Copy, For, If, Off, BodyTree, Nil, Then, OffTree, RoleRowTree, PlanTree}
+use Rattle.gcx_model.specs.Core.{Write, Copy, For, If, SignOff, BodyTree, Nil, Then, OffTree, RoleRowTree, PlanTree}
 use Rattle.gcx_model.specs.Truth.{Env}
 use Rattle.gcx_model.specs.Run.{env0}
 use Rattle.gcx_model.specs.Cores.{BodyIn, Good}
@@ -18,7 +18,7 @@ use Rattle.gcx_model.specs.Points as points
 use Rattle.tree_laws.proofs.Reading.{reading, is_live, is_held, held}
 use Rattle.tree_laws.proofs.Lists.{In, In-left, In-right, In-kept}
 use Rattle.tree_laws.proofs.Matches.{Matches-in}
-use Rattle.placed_laws.proofs.PointForms.{Frame, Rest, Round, IsPoint}
+use Rattle.placed_laws.proofs.PointForms.{Frame, Rest, LoopRound, IsPoint}
 use Rattle.placed_laws.proofs.CorePlans.{in_end, cond_rows_in}
 use Rattle.placed_laws.proofs.Waits.{Has}
 use Rattle.placed_laws.proofs.Frames.{Bound_in, Ready, ready_over, ready_under, ready_far, LoopScope, Loop, Turn, Facts, facts}
@@ -54,8 +54,8 @@ module _ (ends : ℕ → List OffTree) where
   asks_row (Then (For x y s e) d) os r (inr h) = inr (In-right r (rows e) (rows d) (asks_row d os r h))
   asks_row (Then (If c a b) d) os r (inl h) = In-left r (cond_rows c ++ (rows a ++ rows b)) (rows d) (In-left r (cond_rows c) (rows a ++ rows b) h)
   asks_row (Then (If c a b) d) os r (inr h) = In-right r (cond_rows c ++ (rows a ++ rows b)) (rows d) (asks_row d os r h)
-  asks_row (Then (Off o) d) os r (inl h) = absurd h
-  asks_row (Then (Off o) d) os r (inr h) = asks_row d os r h
+  asks_row (Then (SignOff o) d) os r (inl h) = absurd h
+  asks_row (Then (SignOff o) d) os r (inr h) = asks_row d os r h
 
   -- a variable that the placed body uses may be used there, or is bound within
   uses_known : (d : BodyTree) (os : List OffTree) (L : List ℕ) (z : ℕ) → BodyIn true L d → UsesIn z (add_offs (place ends d) os) → In z L ⊎ In z (vars d)
@@ -81,7 +81,7 @@ module _ (ends : ℕ → List OffTree) where
     | inl i ↦ inl i
     | inr i ↦ inr (In-right z (vars a ++ vars b) (vars d) i)
   ]
-  uses_known (Then (Off o) d) os L z q h = absurd q.0
+  uses_known (Then (SignOff o) d) os L z q h = absurd q.0
 
   offs_free : (os : List OffTree) (z : ℕ) → FreeIn z (offs_body os) → ⊥
   offs_free [] z h = h
@@ -103,7 +103,7 @@ module _ (ends : ℕ → List OffTree) where
   free_known (Then (For x y s e) d) os L z q (inr h) = free_known d os L z q.1 h
   free_known (Then (If c a b) d) os L z q (inl h) = subst (λ (w : ℕ). In w L) h.2 (cond_rows_in L c q.0.0 h.0 h.1)
   free_known (Then (If c a b) d) os L z q (inr h) = free_known d os L z q.1 h
-  free_known (Then (Off o) d) os L z q h = absurd q.0
+  free_known (Then (SignOff o) d) os L z q h = absurd q.0
 
 no_off : (d : BodyTree) → HasNoOff d → (o : OffTree) → Has o d → ⊥
 no_off Nil h o i = i
@@ -115,7 +115,7 @@ no_off (Then (For x y s e) d) h o (inl f) = cc
 no_off (Then (For x y s e) d) h o (inr i) = no_off d h.1 o i
 no_off (Then (If c a b) d) h o (inl e) = cc
 no_off (Then (If c a b) d) h o (inr i) = no_off d h.1 o i
-no_off (Then (Off t) d) h o i = absurd h.0
+no_off (Then (SignOff t) d) h o i = absurd h.0
 
 -- each row that is asked about belongs to a variable that is used
 pub asks_uses : (d : BodyTree) (r : RoleRowTree) → AsksIn r d → UsesIn r.var d
@@ -128,8 +128,8 @@ asks_uses (Then (For x y s e) d) r (inl h) = inl (inr (asks_uses e r h))
 asks_uses (Then (For x y s e) d) r (inr h) = inr (asks_uses d r h)
 asks_uses (Then (If c a b) d) r (inl h) = inl (r, h, refl)
 asks_uses (Then (If c a b) d) r (inr h) = inr (asks_uses d r h)
-asks_uses (Then (Off o) d) r (inl h) = absurd h
-asks_uses (Then (Off o) d) r (inr h) = inr (asks_uses d r h)
+asks_uses (Then (SignOff o) d) r (inl h) = absurd h
+asks_uses (Then (SignOff o) d) r (inr h) = inr (asks_uses d r h)
 
 -- what is free in a body is used there
 pub free_uses : (d : BodyTree) (z : ℕ) → FreeIn z d → UsesIn z d
@@ -143,12 +143,12 @@ free_uses (Then (For x y s e) d) z (inl (inr h)) = inl (inr (free_uses e z h.0))
 free_uses (Then (For x y s e) d) z (inr h) = inr (free_uses d z h)
 free_uses (Then (If c a b) d) z (inl h) = inl h
 free_uses (Then (If c a b) d) z (inr h) = inr (free_uses d z h)
-free_uses (Then (Off o) d) z (inl h) = absurd h
-free_uses (Then (Off o) d) z (inr h) = inr (free_uses d z h)
+free_uses (Then (SignOff o) d) z (inl h) = absurd h
+free_uses (Then (SignOff o) d) z (inr h) = inr (free_uses d z h)
 
 -- ---- at a loop
 
-module _ (core : BodyTree) (good : Good core) (ts : List Token) where
+module _ (core : BodyTree) (good : Good core) (ts : List TreeToken) where
   abbrev P : Tree
   P = tree ts
 
@@ -182,21 +182,21 @@ module _ (core : BodyTree) (good : Good core) (ts : List Token) where
     high : (z : ℕ) → In z (vars body) → x < z
     solid : Solid_one f
 
-  of_turn : (top : List Frame) (x y : ℕ) (s : Step) (e : BodyTree) (env : Env) (n : Node) (below : List Frame) → Turn P (grown ts) core good top x y s e env n below → Known x y s e env (Round x y s e env n) below
+  of_turn : (top : List Frame) (x y : ℕ) (s : Step) (e : BodyTree) (env : Env) (n : Node) (below : List Frame) → Turn P (grown ts) core good top x y s e env n below → Known x y s e env (LoopRound x y s e env n) below
   of_turn top x y s e env n below t =
       let c : LoopScope P (grown ts) core good x e env below = t.scope in
       record {
         straight = t.straight;
         var = t.var;
         row = t.row;
-        parent = ready_over P (grown ts) core good y (env y) (Round x y s e env n) below t.parent;
+        parent = ready_over P (grown ts) core good y (env y) (LoopRound x y s e env n) below t.parent;
         ended = t.body;
         body = c.body;
         placed = c.placed;
         rows_known = c.known;
         outer = c.outer;
         uses = c.uses;
-        ready = λ z i. ready_over P (grown ts) core good z (env z) (Round x y s e env n) below (c.here z i).0;
+        ready = λ z i. ready_over P (grown ts) core good z (env z) (LoopRound x y s e env n) below (c.here z i).0;
         bound = λ z i. (c.here z i).1;
         low = c.low;
         high = c.high;
@@ -231,7 +231,7 @@ module _ (core : BodyTree) (good : Good core) (ts : List Token) where
 
   known_at : (top : List Frame) (f : Frame) (below : List Frame) (x y : ℕ) (s : Step) (e : BodyTree) (env : Env) → IsOfLoop x y s e env f → FactsAt top (f ∷ below) → Known x y s e env f below × FactsAt (top ++ f ∷ []) below
   known_at top f below x y s e env (inl (n, q)) h =
-      let t : FactsAt top (Round x y s e env n ∷ below) = subst (λ (z : Frame). FactsAt top (z ∷ below)) q h in
+      let t : FactsAt top (LoopRound x y s e env n ∷ below) = subst (λ (z : Frame). FactsAt top (z ∷ below)) q h in
       subst (λ (z : Frame). Known x y s e env z below × FactsAt (top ++ z ∷ []) below) (sym q) (of_turn top x y s e env n below t.0, t.1)
   known_at top f below x y s e env (inr (d, q)) h =
       let t : FactsAt top (Rest (Then (For x y s e) d) env ∷ below) = subst (λ (z : Frame). FactsAt top (z ∷ below)) q h in
@@ -311,7 +311,7 @@ abbrev HeldAt : PlanTree → Tree → ℕ → Node → Type 0
 HeldAt plan P k m = In m (model.held plan P (points.so_far plan P k))
 
 -- what is held of the core's run is held
-as_held : (core : BodyTree) (good : Good core) (ts : List Token) (k : ℕ) (m : Node) → In m (held (reading core) (tree ts) (so_far core (tree ts) k)) → HeldAt (plan_of core) (tree ts) k m
+as_held : (core : BodyTree) (good : Good core) (ts : List TreeToken) (k : ℕ) (m : Node) → In m (held (reading core) (tree ts) (so_far core (tree ts) k)) → HeldAt (plan_of core) (tree ts) k m
 as_held core good ts k m i = subst (λ (q : List Node). In m q) (sym (held_is core good (tree ts) (points.so_far (plan_of core) (tree ts) k))) i
 
 pub turn_uses : TurnUses

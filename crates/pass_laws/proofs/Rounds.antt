@@ -9,7 +9,7 @@ use Rattle.gcx_model.specs.Nodes.{Rising}
 use Rattle.gcx_model.specs.Core.{BodyTree, Nil, Then, PlanTree}
 use Rattle.gcx_model.specs.Truth.{Env, bind_var}
 use Rattle.gcx_model.specs.Run.{Action, Out, idle, seq, seq_if, run_item, run}
-use Rattle.gcx_model.specs.Points.{Frame, Rest, Round, later, PointAt}
+use Rattle.gcx_model.specs.Points.{Frame, Rest, LoopRound, later, PointAt}
 use Rattle.move_laws.specs.Moves.{AtPoint}
 use Rattle.tree_laws.proofs.Lists.{In-filter}
 use Rattle.tree_laws.proofs.Matches.{Matches-rising}
@@ -69,21 +69,21 @@ module _ (plan : PlanTree) (P : Tree) (k : ℕ) (x y : ℕ) (s : Step) (e : Body
   ms = matches P (serial_of (env y)) (s ∷ [])
 
   -- one round is passed
-  pass_round : (v : Env) (n j : Node) (rest : List Node) → AtPoint plan P k (Rest Nil v ∷ Round x y s e env n ∷ fs) → later n ms ≡ j ∷ rest → IsQuiet e (bind_var env x j) P
-      → AtPoint plan P k (Rest Nil (bind_var env x j) ∷ Round x y s e env j ∷ fs) × (later j ms ≡ rest)
+  pass_round : (v : Env) (n j : Node) (rest : List Node) → AtPoint plan P k (Rest Nil v ∷ LoopRound x y s e env n ∷ fs) → later n ms ≡ j ∷ rest → IsQuiet e (bind_var env x j) P
+      → AtPoint plan P k (Rest Nil (bind_var env x j) ∷ LoopRound x y s e env j ∷ fs) × (later j ms ≡ rest)
   pass_round v n j rest st l q = (
-    record { grown = st.grown; point = pass_body plan P k e (bind_var env x j) (Round x y s e env j ∷ fs) q (record { grown = st.grown; point = next_round plan P k v x y s e env n fs j rest st l }) },
+    record { grown = st.grown; point = pass_body plan P k e (bind_var env x j) (LoopRound x y s e env j ∷ fs) q (record { grown = st.grown; point = next_round plan P k v x y s e env n fs j rest st l }) },
     later_tail n j ms rest (Matches-rising P (grown_from P st.grown) (serial_of (env y)) (s ∷ [])) l,
   )
 
-  passed : (v : Env) (n : Node) (pre : List Node) (m : Node) (post : List Node) → AtPoint plan P k (Rest Nil v ∷ Round x y s e env n ∷ fs) → later n ms ≡ pre ++ m ∷ post → ((j : Node) → In j pre → IsQuiet e (bind_var env x j) P)
-      → PointAt plan P k (Rest e (bind_var env x m) ∷ Round x y s e env m ∷ fs)
+  passed : (v : Env) (n : Node) (pre : List Node) (m : Node) (post : List Node) → AtPoint plan P k (Rest Nil v ∷ LoopRound x y s e env n ∷ fs) → later n ms ≡ pre ++ m ∷ post → ((j : Node) → In j pre → IsQuiet e (bind_var env x j) P)
+      → PointAt plan P k (Rest e (bind_var env x m) ∷ LoopRound x y s e env m ∷ fs)
   passed v n [] m post st l q = next_round plan P k v x y s e env n fs m post st l
   passed v n (j ∷ pre) m post st l q =
       let p = pass_round v n j (pre ++ m ∷ post) st l (q j (inl refl)) in
       passed (bind_var env x j) j pre m post p.0 p.1 (λ i h. q i (inr h))
 
-  all_passed : (v : Env) (n : Node) (rest : List Node) → AtPoint plan P k (Rest Nil v ∷ Round x y s e env n ∷ fs) → later n ms ≡ rest → ((j : Node) → In j rest → IsQuiet e (bind_var env x j) P) → is_closed P (env y) ≡ true
+  all_passed : (v : Env) (n : Node) (rest : List Node) → AtPoint plan P k (Rest Nil v ∷ LoopRound x y s e env n ∷ fs) → later n ms ≡ rest → ((j : Node) → In j rest → IsQuiet e (bind_var env x j) P) → is_closed P (env y) ≡ true
       → PointAt plan P k fs
   all_passed v n [] st l q c = last_round plan P k v x y s e env n fs st l c
   all_passed v n (j ∷ rest) st l q c =

@@ -6,7 +6,7 @@ use Rattle.gcx_model.specs.Tree.{Node, serial_of, Tree, opening, is_closed}
 use Rattle.gcx_model.specs.Paths.{matches}
 use Rattle.gcx_model.specs.Members.{In}
 use Rattle.gcx_model.specs.Growth.{Leads}
-use Rattle.gcx_model.specs.Core.{OperandTree, Path, Str, Num, CondTree, CondTrees, Always, Exists, Compare, Not, All, Any, no_cond, more_conds, ItemTree, Write, Copy, For, If, Off, BodyTree, Nil, Then, First, Whole, RoleRowTree}
+use Rattle.gcx_model.specs.Core.{OperandTree, Path, Str, Num, CondTree, CondTrees, Always, Exists, Compare, Not, AllOf, AnyOf, no_cond, more_conds, ItemTree, Write, Copy, For, If, SignOff, BodyTree, Nil, Then, First, Whole, RoleRowTree}
 use Rattle.gcx_model.specs.Roles.{operand_rows, cond_rows, conds_rows}
 use Rattle.gcx_model.specs.Truth.{Env, bind_var, is_over}
 use Rattle.tree_laws.proofs.Lists.{In-left, In-right}
@@ -27,8 +27,8 @@ module _ (P : Tree) (lo : Leads opening P) where
     cond_settled env (Exists x steps) h = h (record { var = x; tail = steps; kind = First }) (inl refl)
     cond_settled env (Compare l rel r) h = (over env l (λ q i. h q (In-left q (operand_rows l) (operand_rows r) i)), over env r (λ q i. h q (In-right q (operand_rows l) (operand_rows r) i)))
     cond_settled env (Not c) h = cond_settled env c h
-    cond_settled env (All cs) h = conds_settled env cs h
-    cond_settled env (Any cs) h = conds_settled env cs h
+    cond_settled env (AllOf cs) h = conds_settled env cs h
+    cond_settled env (AnyOf cs) h = conds_settled env cs h
 
     conds_settled : (env : Env) (cs : CondTrees) → ((r : RoleRowTree) → In r (conds_rows cs) → is_closed P (env r.var) ≡ true) → AreSettled P env cs
     conds_settled env no_cond h = tt
@@ -53,7 +53,7 @@ module _ (P : Tree) (lo : Leads opening P) where
     item_settled (Copy x) env h = tt
     item_settled (For x y s e) env h = (h y (inl refl), λ m i. body_settled e (bind_var env x m) (inner x y s e env m h i))
     item_settled (If c a b) env h = cond_settled env c (λ r i. h r.var (r, i, refl))
-    item_settled (Off o) env h = tt
+    item_settled (SignOff o) env h = tt
 
     body_settled : (d : BodyTree) (env : Env) → AllClosed env d → IsBodySettled P env d
     body_settled Nil env h = tt

@@ -14,7 +14,7 @@ use Rattle.gcx_model.specs.Tree.{Node, serial_of, Tree, opening, is_closed}
 use Rattle.gcx_model.specs.Paths.{any, matches, value}
 use Rattle.gcx_model.specs.Members.{In}
 use Rattle.gcx_model.specs.Growth.{Leads, stays}
-use Rattle.gcx_model.specs.Values.{Value, Bytes, compare}
+use Rattle.gcx_model.specs.Values.{ComparedValue, Bytes, compare}
 use Rattle.gcx_model.specs.Answer.{some_pair}
 use Rattle.gcx_model.specs.Core.{Path}
 use Rattle.gcx_model.specs.Truth.{Env, node_value, settled_values, settle}
@@ -78,23 +78,23 @@ same_equal v w e = exact_bytes v w (is_equal (slice_cmp nat_cmp v w) e)
     is_equal Greater h = absurd (false≢true h)
 
 -- a value that both lists have
-pair_of : (v : List ℕ) (vs ws : List Value) → In (Bytes v) vs → In (Bytes v) ws → some_pair (compare Eq) vs ws ≡ true
-pair_of v vs ws i j = any_from (λ (u : Value). any (compare Eq u) ws) (Bytes v) vs i (any_from (compare Eq (Bytes v)) (Bytes v) ws j (equal_same v))
+pair_of : (v : List ℕ) (vs ws : List ComparedValue) → In (Bytes v) vs → In (Bytes v) ws → some_pair (compare Eq) vs ws ≡ true
+pair_of v vs ws i j = any_from (λ (u : ComparedValue). any (compare Eq u) ws) (Bytes v) vs i (any_from (compare Eq (Bytes v)) (Bytes v) ws j (equal_same v))
 
 of_pair : (P : Tree) (ns ms : List Node) → some_pair (compare Eq) (map (node_value P) ns) (map (node_value P) ms) ≡ true → (n m : Node) × In n ns × In m ms × (value P n ≡ value P m)
 of_pair P ns ms e =
-    let a = any_in (λ (u : Value). any (compare Eq u) (map (node_value P) ms)) (map (node_value P) ns) e in
+    let a = any_in (λ (u : ComparedValue). any (compare Eq u) (map (node_value P) ms)) (map (node_value P) ns) e in
     let b = any_in (compare Eq a.0) (map (node_value P) ms) a.2 in
     let n = from_map (node_value P) a.0 ns a.1 in
     let m = from_map (node_value P) b.0 ms b.1 in
-    let h : compare Eq (Bytes (value P n.0)) (Bytes (value P m.0)) ≡ true = ap (λ (u : Value). compare Eq u (Bytes (value P m.0))) n.2 ∙ (ap (compare Eq a.0) m.2 ∙ b.2) in
+    let h : compare Eq (Bytes (value P n.0)) (Bytes (value P m.0)) ≡ true = ap (λ (u : ComparedValue). compare Eq u (Bytes (value P m.0))) n.2 ∙ (ap (compare Eq a.0) m.2 ∙ b.2) in
     (n.0, m.0, n.1, m.1, same_equal (value P n.0) (value P m.0) h)
 
 module _ (P : Tree) (lo : Leads opening P) (env : Env) (x y : ℕ) (outer inner : List Step) (vs : List (List ℕ)) (ix : In (env x) P.nodes) (iy : In (env y) P.nodes) (k : IsListOf P outer (serial_of (env x)) vs) where
-  abbrev lefts : List Value
+  abbrev lefts : List ComparedValue
   lefts = settled_values P env (Path x outer)
 
-  abbrev rights : List Value
+  abbrev rights : List ComparedValue
   rights = settled_values P env (Path y inner)
 
   is_node : k.node ≡ env x

@@ -5,9 +5,9 @@ use Rattle.gcx_base.specs.declared.rel.Rel.TheVariants.{Eq, Ne, Lt, Le, Gt, Ge}
 use Rattle.gcx_model.specs.Tree.{Node, serial_of, Tree, opening, is_closed}
 use Rattle.gcx_model.specs.Paths.{matches}
 use Rattle.gcx_model.specs.Members.{In}
-use Rattle.gcx_model.specs.Core.{OperandTree, Path, Str, Num, CondTree, Always, Exists, Compare, Not, All, Any}
+use Rattle.gcx_model.specs.Core.{OperandTree, Path, Str, Num, CondTree, Always, Exists, Compare, Not, AllOf, AnyOf}
 use Rattle.gcx_model.specs.Core.{CondTrees, no_cond, more_conds, RoleRowTree}
-use Rattle.gcx_model.specs.Core.{ItemTree, Write, Copy, For, If, Off, BodyTree, Nil, Then}
+use Rattle.gcx_model.specs.Core.{ItemTree, Write, Copy, For, If, SignOff, BodyTree, Nil, Then}
 use Rattle.gcx_model.specs.declared.truth.Truth.TheVariants.{False}
 use Rattle.gcx_model.specs.Truth.{Env, bind_var, truth, is_over}
 use Rattle.gcx_model.specs.Run.{idle, run}
@@ -34,8 +34,8 @@ abbrev mutual
   AsksEqual l r (Exists x steps) = ⊥
   AsksEqual l r (Compare left rel right) = IsEqual l r left right rel
   AsksEqual l r (Not c) = ⊥
-  AsksEqual l r (All cs) = SomeAsksEqual l r cs
-  AsksEqual l r (Any cs) = ⊥
+  AsksEqual l r (AllOf cs) = SomeAsksEqual l r cs
+  AsksEqual l r (AnyOf cs) = ⊥
 
   pub SomeAsksEqual : (l r : OperandTree) → CondTrees → Type 0
   SomeAsksEqual l r no_cond = ⊥
@@ -54,7 +54,7 @@ abbrev mutual
   IsGuardedItem l r (Copy x) = ⊥
   IsGuardedItem l r (For z y s d) = IsNotFrom z l × IsNotFrom z r × IsGuarded l r d
   IsGuardedItem l r (If c a b) = AsksEqual l r c × (b ≡ Nil)
-  IsGuardedItem l r (Off o) = ⊥
+  IsGuardedItem l r (SignOff o) = ⊥
 
   pub IsGuarded : (l r : OperandTree) → BodyTree → Type 0
   IsGuarded l r Nil = Unit {0}
@@ -67,8 +67,8 @@ abbrev mutual
   IsSettled P env (Exists x steps) = is_closed P (env x) ≡ true
   IsSettled P env (Compare l rel r) = (is_over P env l ≡ true) × (is_over P env r ≡ true)
   IsSettled P env (Not c) = IsSettled P env c
-  IsSettled P env (All cs) = AreSettled P env cs
-  IsSettled P env (Any cs) = AreSettled P env cs
+  IsSettled P env (AllOf cs) = AreSettled P env cs
+  IsSettled P env (AnyOf cs) = AreSettled P env cs
 
   pub AreSettled : Tree → Env → CondTrees → Type 0
   AreSettled P env no_cond = Unit {0}
@@ -82,7 +82,7 @@ abbrev mutual
   IsItemSettled P env (For z y s d) = (is_closed P (env y) ≡ true)
       × ((m : Node) → In m (matches P (serial_of (env y)) (s ∷ [])) → IsBodySettled P (bind_var env z m) d)
   IsItemSettled P env (If c a b) = IsSettled P env c
-  IsItemSettled P env (Off o) = Unit {0}
+  IsItemSettled P env (SignOff o) = Unit {0}
 
   pub IsBodySettled : Tree → Env → BodyTree → Type 0
   IsBodySettled P env Nil = Unit {0}
@@ -101,7 +101,7 @@ abbrev mutual
   FreeInItem z (Copy x) = ⊥
   FreeInItem z (For x y s d) = (y ≡ z) ⊎ (FreeIn z d × (z ≡ x → ⊥))
   FreeInItem z (If c a b) = (r : RoleRowTree) × In r (cond_rows c) × (r.var ≡ z)
-  FreeInItem z (Off o) = ⊥
+  FreeInItem z (SignOff o) = ⊥
 
   pub FreeIn : ℕ → BodyTree → Type 0
   FreeIn z Nil = ⊥

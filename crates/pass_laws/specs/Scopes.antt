@@ -4,13 +4,13 @@ use Rattle.gcx_base.specs.declared.steps.Step.{Step}
 use Rattle.gcx_model.specs.Tree.{Node, serial_of, Tree}
 use Rattle.gcx_model.specs.Paths.{matches}
 use Rattle.gcx_model.specs.Members.{In}
-use Rattle.gcx_model.specs.Core.{ItemTree, Write, Copy, For, If, Off, BodyTree, Nil, Then, RoleRowTree, PlanTree}
+use Rattle.gcx_model.specs.Core.{ItemTree, Write, Copy, For, If, SignOff, BodyTree, Nil, Then, RoleRowTree, PlanTree}
 use Rattle.gcx_model.specs.Cores.{Good}
 use Rattle.gcx_model.specs.Placed.{Placed}
 use Rattle.gcx_model.specs.Roles.{cond_rows}
 use Rattle.gcx_model.specs.Truth.{Env}
 use Rattle.gcx_model.specs.Held.{gives, held}
-use Rattle.gcx_model.specs.Points.{so_far, CoreState, Frame, Rest, Round, PointAt, Bound_in}
+use Rattle.gcx_model.specs.Points.{so_far, CoreState, Frame, Rest, LoopRound, PointAt, Bound_in}
 use Rattle.pass_laws.specs.Idle.{FreeIn}
 
 -- a loop of the body takes its step from the variable, or a condition of it asks about it
@@ -20,7 +20,7 @@ abbrev mutual
   UsesInItem z (Copy x) = ⊥
   UsesInItem z (For x y s d) = (y ≡ z) ⊎ UsesIn z d
   UsesInItem z (If c a b) = (r : RoleRowTree) × In r (cond_rows c) × (r.var ≡ z)
-  UsesInItem z (Off o) = ⊥
+  UsesInItem z (SignOff o) = ⊥
 
   pub UsesIn : ℕ → BodyTree → Type 0
   UsesIn z Nil = ⊥
@@ -33,7 +33,7 @@ abbrev mutual
   AsksInItem r (Copy x) = ⊥
   AsksInItem r (For x y s d) = AsksIn r d
   AsksInItem r (If c a b) = In r (cond_rows c)
-  AsksInItem r (Off o) = ⊥
+  AsksInItem r (SignOff o) = ⊥
 
   pub AsksIn : RoleRowTree → BodyTree → Type 0
   AsksIn r Nil = ⊥
@@ -46,7 +46,7 @@ abbrev mutual
   HasNoOffItem (Copy x) = Unit {0}
   HasNoOffItem (For x y s d) = HasNoOff d
   HasNoOffItem (If c a b) = Unit {0}
-  HasNoOffItem (Off o) = ⊥
+  HasNoOffItem (SignOff o) = ⊥
 
   pub HasNoOff : BodyTree → Type 0
   HasNoOff Nil = Unit {0}
@@ -55,7 +55,7 @@ abbrev mutual
 -- the frame is a round of this loop, or what is left of a body that begins with it
 abbrev pub IsOfLoop : (x y : ℕ) → Step → BodyTree → Env → Frame → Type 0
 IsOfLoop x y s e env f =
-    ((n : Node) × (f ≡ Round x y s e env n)) ⊎ ((d : BodyTree) × (f ≡ Rest (Then (For x y s e) d) env))
+    ((n : Node) × (f ≡ LoopRound x y s e env n)) ⊎ ((d : BodyTree) × (f ≡ Rest (Then (For x y s e) d) env))
 
 -- In a core state of a placed plan this loop stands at a round or comes next, in a frame above these.
 pub record AtLoop (plan : PlanTree) (P : Tree) (k x y : ℕ) (s : Step) (e : BodyTree) (env : Env) (below : List Frame)

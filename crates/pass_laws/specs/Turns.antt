@@ -6,7 +6,7 @@ use Rattle.gcx_model.specs.Paths.{matches}
 use Rattle.gcx_model.specs.Members.{In}
 use Rattle.gcx_model.specs.Core.{BodyTree, Nil, PlanTree}
 use Rattle.gcx_model.specs.Truth.{Env, bind_var}
-use Rattle.gcx_model.specs.Points.{Frame, Rest, Round, later, PointAt}
+use Rattle.gcx_model.specs.Points.{Frame, Rest, LoopRound, later, PointAt}
 use Rattle.move_laws.specs.Moves.{AtPoint}
 use Rattle.pass_laws.specs.Idle.{IsQuiet}
 
@@ -15,16 +15,16 @@ use Rattle.pass_laws.specs.Idle.{IsQuiet}
 abbrev pub RoundsPass : Type 0
 RoundsPass = (plan : PlanTree) (P : Tree) (k : ℕ) (v : Env) (x y : ℕ) (s : Step) (e : BodyTree) (env : Env)
     → (n : Node) (fs : List Frame) (pre : List Node) (m : Node) (post : List Node)
-    → AtPoint plan P k (Rest Nil v ∷ Round x y s e env n ∷ fs)
+    → AtPoint plan P k (Rest Nil v ∷ LoopRound x y s e env n ∷ fs)
     → later n (matches P (serial_of (env y)) (s ∷ [])) ≡ pre ++ m ∷ post
     → ((j : Node) → In j pre → IsQuiet e (bind_var env x j) P)
-    → PointAt plan P k (Rest e (bind_var env x m) ∷ Round x y s e env m ∷ fs)
+    → PointAt plan P k (Rest e (bind_var env x m) ∷ LoopRound x y s e env m ∷ fs)
 
 -- and where it is so for all later matches and no more come, the loop is over.
 abbrev pub LastRoundsPass : Type 0
 LastRoundsPass = (plan : PlanTree) (P : Tree) (k : ℕ) (v : Env) (x y : ℕ) (s : Step) (e : BodyTree) (env : Env)
     → (n : Node) (fs : List Frame)
-    → AtPoint plan P k (Rest Nil v ∷ Round x y s e env n ∷ fs)
+    → AtPoint plan P k (Rest Nil v ∷ LoopRound x y s e env n ∷ fs)
     → ((j : Node) → In j (later n (matches P (serial_of (env y)) (s ∷ []))) → IsQuiet e (bind_var env x j) P)
     → is_closed P (env y) ≡ true
     → PointAt plan P k fs

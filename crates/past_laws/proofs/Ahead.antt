@@ -6,11 +6,11 @@ use Rattle.std.proofs.Math.Seq.{drop-append_seam}
 use Rattle.std.proofs.lemmas.Bool.{or_left, or_right, and_parts, and_from, true≢false, false≢true, eqb-true, eq-eqb, not-true, false_from_ne_true, true_from_ne_false}
 use Rattle.std.proofs.lemmas.Bool.Decides.{same_from_decides}
 use Rattle.gcx_base.specs.declared.steps.Step.{Step}
-use Rattle.gcx_model.specs.Tree.{Node, serial_of, above, within, Tree, Token, Start, Chars, End, grow, grow_at, is_open_at}
+use Rattle.gcx_model.specs.Tree.{Node, serial_of, above, within, Tree, TreeToken, Start, Chars, End, grow, grow_at, is_open_at}
 use Rattle.gcx_model.specs.Paths.{all, hits, matches, first, head}
 use Rattle.gcx_model.specs.Members.{In, count}
 use Rattle.gcx_model.specs.Nodes.{Grown}
-use Rattle.gcx_model.specs.Core.{RoleKind, Own, First, Whole, OffTree}
+use Rattle.gcx_model.specs.Core.{RoleTarget, Own, First, Whole, OffTree}
 use Rattle.gcx_model.specs.Run.{Action, Wrote, Offed}
 use Rattle.gcx_model.specs.Placed.{is_own_kind, is_own, is_empty}
 use Rattle.gcx_model.specs.Held.{path_of, statement_of, is_node, gives, given, signed, reaches, all_signed, on_off, taken}
@@ -37,7 +37,7 @@ pub open_above : (p m : Node) → In m (above p) → within (serial_of m) p ≡ 
 open_above p m i = within_above (serial_of m) m p i (within_self (serial_of m) m (eq-eqb (serial_of m) (serial_of m) refl))
 
 -- the node that a token adds
-added_only : (at : Option Node) (t : Token) (P : Tree) (n : Node) → In n (added_at at t P)
+added_only : (at : Option Node) (t : TreeToken) (P : Tree) (n : Node) → In n (added_at at t P)
     → (added_at at t P ≡ n ∷ [])
     × (serial_of n ≡ length P.nodes)
     × (above n ≡ n ∷ open_from at)
@@ -53,7 +53,7 @@ added_only (Some p) (Chars b) P n (inl e) = subst (λ (z : Node). (added_at (Som
 added_only (Some p) (Chars b) P n (inr i) = absurd i
 added_only (Some p) End P n i = absurd i
 
-is_added : (P : Tree) (t : Token) (n : Node) → Opens P t n → In n (added t P)
+is_added : (P : Tree) (t : TreeToken) (n : Node) → Opens P t n → In n (added t P)
 is_added P t n h = elim (In-append n P.nodes (added t P) (subst (λ (z : List Node). In n z) (grow_nodes t P) h.0)) [ inl i ↦ absurd (h.1 i) | inr i ↦ i ]
 
 pub open_is : (at : Option Node) (m : Node) → In m (open_from at) → is_open_at at (serial_of m) ≡ true
@@ -107,7 +107,7 @@ open_nodes_are P l m i = (within_open P.at refl, open_is P.at m)
     within_open (Some p) e h = within_is P w m p i (w.at_in p e) h
 
 -- a role that reaches n from m reaches into m's subtree
-pub gives_within : (P : Tree) → Grown P → (m : Node) (rel tail : List Step) (k : RoleKind) (n : Node) → In m P.nodes → In n P.nodes → gives P (serial_of m) rel tail k n ≡ true → within (serial_of m) n ≡ true
+pub gives_within : (P : Tree) → Grown P → (m : Node) (rel tail : List Step) (k : RoleTarget) (n : Node) → In m P.nodes → In n P.nodes → gives P (serial_of m) rel tail k n ≡ true → within (serial_of m) n ≡ true
 gives_within P w m rel tail Own n i j g = hits_within (serial_of m) rel n g
 gives_within P w m rel tail Whole n i j g =
     let r = any_in (hits (serial_of m) (rel ++ tail)) (above n) g in
@@ -126,13 +126,13 @@ own_alone P o m n h g =
     let a = and_parts (is_own_kind o.kind) (is_empty o.rel) h in
     go o.kind o.rel a.0 a.1 g
   where
-    go : (k : RoleKind) (rel : List Step) → is_own_kind k ≡ true → is_empty rel ≡ true → gives P (serial_of m) rel o.tail k n ≡ true → serial_of n ≡ serial_of m
+    go : (k : RoleTarget) (rel : List Step) → is_own_kind k ≡ true → is_empty rel ≡ true → gives P (serial_of m) rel o.tail k n ≡ true → serial_of n ≡ serial_of m
     go Own [] e f h = eqb-true (serial_of n) (serial_of m) h
     go Own (s ∷ rel) e f h = absurd (false≢true f)
     go First rel e f h = absurd (false≢true e)
     go Whole rel e f h = absurd (false≢true e)
 
-module _ (past : Past) (is : IsPast past) (t : Token) where
+module _ (past : Past) (is : IsPast past) (t : TreeToken) where
   abbrev Q : Tree
   Q = grow t past.tree
 

@@ -7,7 +7,7 @@ use Rattle.gcx_model.specs.Tree.{Node, serial_of, above, within, Tree, is_open_a
 use Rattle.gcx_model.specs.Paths.{any, all, head, hits, matches, first}
 use Rattle.gcx_model.specs.Members.{In, count}
 use Rattle.gcx_model.specs.Nodes.{Grown}
-use Rattle.gcx_model.specs.Core.{RoleKind, Own, First, Whole, OffTree}
+use Rattle.gcx_model.specs.Core.{RoleTarget, Own, First, Whole, OffTree}
 use Rattle.gcx_model.specs.Run.{Action}
 use Rattle.gcx_model.specs.Placed.{offs_in}
 use Rattle.gcx_model.specs.Held.{path_of, is_node, gives, given, signed, reaches, all_signed, on_off, taken, live, is_live, is_held, held, held_tree}
@@ -131,7 +131,7 @@ module _ (past : Past) (is : IsPast past) where
           let b = In-filter (is_held past.plan P A) x P.nodes a.0 in
           let y = some_first (matches P (serial_of k) s.tail) x (Matches-from P (serial_of k) s.tail x b.0 a.1) in
           let g : gives P (serial_of m) s.rel s.tail First y.0 ≡ true = any_from (λ (t : Node). is_node (serial_of y.0) (first P (serial_of t) s.tail)) k (matches P (serial_of m) s.rel) i (is_seen (serial_of y.0) (first P (serial_of k) s.tail) y.0 y.1 refl) in
-          let h : is_held past.plan P A y.0 ≡ true = reached_held y.0 (Matches-in P (serial_of k) s.tail y.0 y.2).0 (subst (λ (c : RoleKind). gives P (serial_of m) s.rel s.tail c y.0 ≡ true) (sym e) g) in
+          let h : is_held past.plan P A y.0 ≡ true = reached_held y.0 (Matches-in P (serial_of k) s.tail y.0 y.2).0 (subst (λ (c : RoleTarget). gives P (serial_of m) s.rel s.tail c y.0 ≡ true) (sym e) g) in
           y.1 ∙ (sym (first_kept (serial_of k) y.0 y.1 h) ∙ f)
 
       held_tells : (n : Node) → In n past.tree.nodes → is_held past.plan past.tree past.acts n ≡ true → reaches (held_tree past.plan past.tree past.acts) s m n ≡ reaches past.tree s m n
@@ -143,7 +143,7 @@ module _ (past : Past) (is : IsPast past) where
           kept : Node → Bool
           kept = is_held past.plan past.tree past.acts
 
-          go : (k : RoleKind) → s.kind ≡ k → gives (held_tree past.plan past.tree past.acts) (serial_of m) s.rel s.tail k n ≡ gives past.tree (serial_of m) s.rel s.tail k n
+          go : (k : RoleTarget) → s.kind ≡ k → gives (held_tree past.plan past.tree past.acts) (serial_of m) s.rel s.tail k n ≡ gives past.tree (serial_of m) s.rel s.tail k n
           go Own e = refl
           go Whole e = refl
           go First e = same_from_decides {P = gives past.tree (serial_of m) s.rel s.tail First n ≡ true} _ _ (back, forth) ((λ z. z), λ z. z)

@@ -5,7 +5,7 @@ use Rattle.std.proofs.Math.Bool.{and-true, or-false}
 use Rattle.std.proofs.lemmas.Bool.{or_parts, or_from, and_parts, and_from, true≢false, false≢true, eqb-true, eq-eqb, ne_eqb, false_from_ne_true}
 use Rattle.std.proofs.lemmas.Bool.Decides.{same_from_decides}
 use Rattle.gcx_base.specs.declared.steps.Step.{Step}
-use Rattle.gcx_model.specs.Tree.{Node, serial_of, kind_of, within, Tree, Token, grow, is_open_at}
+use Rattle.gcx_model.specs.Tree.{Node, serial_of, kind_of, within, Tree, TreeToken, grow, is_open_at}
 use Rattle.gcx_model.specs.Paths.{all, hits, matches}
 use Rattle.gcx_model.specs.Members.{In, count}
 use Rattle.gcx_model.specs.Core.{OffTree, RoleRowTree}
@@ -36,7 +36,7 @@ all-append p (x ∷ xs) ys = ap (λ z. p x && z) (all-append p xs ys) ∙ and-as
 
 -- Behind a token
 
-module _ (past : Past) (is : IsPast past) (t : Token) (n : Node) (i : In n past.tree.nodes) where
+module _ (past : Past) (is : IsPast past) (t : TreeToken) (n : Node) (i : In n past.tree.nodes) where
   given_fed : (r : ℕ) → given past.plan (grow t past.tree) n r ≡ given past.plan past.tree n r
   given_fed r = go (row_at past.plan.roles r)
     where

@@ -2,7 +2,7 @@
 use Rattle.std.specs.Prelude.{◌≡◌, ℕ, ◌≤◌, true, false, not, cond, ◌&&◌, ◌||◌, List, [], ◌∷◌, ◌++◌, filter, map, length, drop, ◌==◌, ◌↔◌, ◌⊎◌, Some}
 use Rattle.gcx_base.specs.declared.steps.Step.{Step}
 use Rattle.gcx_base.specs.declared.kind.Kind.TheVariants.{Element, Text}
-use Rattle.gcx_model.specs.Tree.{Node, Under, serial_of, above, Tree, Token, Start, Chars, End, opening, grow, is_open_at}
+use Rattle.gcx_model.specs.Tree.{Node, Under, serial_of, above, Tree, TreeToken, Start, Chars, End, opening, grow, is_open_at}
 use Rattle.gcx_model.specs.Paths.{hits, matches, first}
 use Rattle.gcx_model.specs.Members.{In}
 use Rattle.gcx_model.specs.Core.{BodyTree, OffTree, PlanTree}
@@ -27,7 +27,7 @@ PastOpens = (core : BodyTree) → Good core → (plan : PlanTree) → Placed cor
 
 -- behind a token that may come,
 abbrev pub PastFeeds : Type 0
-PastFeeds = (past : Past) → IsPast past → (t : Token) → may_come t past.tree ≡ true → IsPast (past_fed t past)
+PastFeeds = (past : Past) → IsPast past → (t : TreeToken) → may_come t past.tree ≡ true → IsPast (past_fed t past)
 
 -- the nodes at which the statement may be carried out: the matches of its base's path
 abbrev pub bases : Past → OffTree → List Node
@@ -58,7 +58,7 @@ ReachHeld = (past : Past) → IsPast past → (s : OffTree) → In s (offs_in pa
 
 -- A token opens one node at most: with the next number, as a child of the innermost open node. The nodes that were open stay so, and none but the new one becomes open.
 abbrev pub NewNode : Type 0
-NewNode = (P : Tree) (t : Token) (n : Node) → Opens P t n
+NewNode = (P : Tree) (t : TreeToken) (n : Node) → Opens P t n
     → (drop (length P.nodes) (grow t P).nodes ≡ n ∷ [])
     × (serial_of n ≡ length P.nodes)
     × (above n ≡ n ∷ open_nodes P)
@@ -68,7 +68,7 @@ NewNode = (P : Tree) (t : Token) (n : Node) → Opens P t n
 
 -- The new node is a first match exactly where it is a match and there was none; and a first match stays it.
 abbrev pub FirstBehind : Type 0
-FirstBehind = (P : Tree) (t : Token) (n : Node) → Opens P t n → (k : ℕ) (path : List Step)
+FirstBehind = (P : Tree) (t : TreeToken) (n : Node) → Opens P t n → (k : ℕ) (path : List Step)
     → ((first (grow t P) k path ≡ Some n) ↔ ((hits k path n ≡ true) × (matches P k path ≡ [])))
     × ((m : Node) → first P k path ≡ Some m → first (grow t P) k path ≡ Some m)
 
@@ -78,40 +78,40 @@ OpenNodes = (P : Tree) → Leads opening P → (m : Node) → In m P.nodes → (
 
 -- No statement is signed at a new node.
 abbrev pub NewUnsigned : Type 0
-NewUnsigned = (past : Past) → IsPast past → (t : Token) (n : Node) → Opens past.tree t n
+NewUnsigned = (past : Past) → IsPast past → (t : TreeToken) (n : Node) → Opens past.tree t n
     → ((o : OffTree) → signed past.acts o n ≡ false) × (roles_signed past.plan past.acts n ≡ [])
 
 -- At a new node what is taken depends on those actions alone that are in advance behind its token.
 abbrev pub AheadTakes : Type 0
-AheadTakes = (past : Past) → IsPast past → (t : Token) (n : Node) → Opens past.tree t n → (r : ℕ)
+AheadTakes = (past : Past) → IsPast past → (t : TreeToken) (n : Node) → Opens past.tree t n → (r : ℕ)
     → taken past.plan (grow t past.tree) past.acts n r ≡ taken past.plan (grow t past.tree) (filter (is_ahead (grow t past.tree)) past.acts) n r
 
 -- So the roles of its row are those that it is given, without what these take.
 abbrev pub NewRoles : Type 0
-NewRoles = (past : Past) → IsPast past → (t : Token) (n : Node) → Opens past.tree t n
+NewRoles = (past : Past) → IsPast past → (t : TreeToken) (n : Node) → Opens past.tree t n
     → roles_live past.plan (grow t past.tree) past.acts n
     ≡ filter (λ r. not (taken past.plan (grow t past.tree) (filter (is_ahead (grow t past.tree)) past.acts) n r)) (roles_given past.plan (grow t past.tree) n)
 
 -- A role is taken from a new node exactly where the node is given it and its statement is carried out in advance at each match of its base's path from which it reaches the node; such a match is the node or above it.
 abbrev pub AheadSigned : Type 0
-AheadSigned = (past : Past) → IsPast past → (t : Token) (n : Node) → Opens past.tree t n → (s : OffTree) → In s (offs_in past.plan.body)
+AheadSigned = (past : Past) → IsPast past → (t : TreeToken) (n : Node) → Opens past.tree t n → (s : OffTree) → In s (offs_in past.plan.body)
     → (taken past.plan (grow t past.tree) past.acts n s.role ≡ true)
     ↔ ((given past.plan (grow t past.tree) n s.role ≡ true)
     × ((m : Node) → In m (above n) → In m (matches (grow t past.tree) 0 (path_of past.plan s.base)) → reaches (grow t past.tree) s m n ≡ true → In (Offed s (serial_of m)) (filter (is_ahead (grow t past.tree)) past.acts)))
 
 -- What is in advance behind a token was so before it.
 abbrev pub AheadBefore : Type 0
-AheadBefore = (past : Past) → IsPast past → (t : Token) (a : Action) → In a past.acts → is_ahead (grow t past.tree) a ≡ true → is_ahead past.tree a ≡ true
+AheadBefore = (past : Past) → IsPast past → (t : TreeToken) (a : Action) → In a past.acts → is_ahead (grow t past.tree) a ≡ true → is_ahead past.tree a ≡ true
 
 -- A node that was there has the same roles live behind a token; what is signed at it doesn't depend on the tree. So of its row the token changes at most whether it is open.
 abbrev pub LiveByFeed : Type 0
-LiveByFeed = (past : Past) → IsPast past → (t : Token) (n : Node) → In n past.tree.nodes
+LiveByFeed = (past : Past) → IsPast past → (t : TreeToken) (n : Node) → In n past.tree.nodes
     → ((r : ℕ) → live past.plan (grow t past.tree) past.acts n r ≡ live past.plan past.tree past.acts n r)
     × (row_of (past_fed t past) n ≡ record (row_of past n) { is_open = is_open_at (grow t past.tree).at (serial_of n) })
 
 -- The rows behind a token are those of the nodes held before it and of the new one, as far as these are held.
 abbrev pub RowsByFeed : Type 0
-RowsByFeed = (past : Past) → IsPast past → (t : Token)
+RowsByFeed = (past : Past) → IsPast past → (t : TreeToken)
     → rows_of (past_fed t past) ≡ map (row_of (past_fed t past)) (filter (is_held past.plan (grow t past.tree) past.acts) (held past.plan past.tree past.acts ++ drop (length past.tree.nodes) (grow t past.tree).nodes))
 
 -- The rows behind an action are those of the nodes held before it, as far as these are held; a write changes none.
@@ -156,7 +156,7 @@ SignedByAct = (past : Past) → IsPast past → (s : OffTree) → In s (offs_in 
 -- The statements that wait for the next token: none behind a token; and behind an action also its own, where it is in advance, with the level of its node.
 abbrev pub WaitingLaw : Type 0
 WaitingLaw = (past : Past) → IsPast past
-    → ((t : Token) → waiting_offs (past_fed t past) ≡ [])
+    → ((t : TreeToken) → waiting_offs (past_fed t past) ≡ [])
     × ((b : List ℕ) → waiting_offs (past_acted (Wrote b) past) ≡ waiting_offs past)
     × ((s : OffTree) (m : Node) → In m past.tree.nodes
     → waiting_offs (past_acted (Offed s (serial_of m)) past) ≡ waiting_offs past ++ cond (is_ahead past.tree (Offed s (serial_of m))) (record { level = level m; off = s } ∷ []) [])

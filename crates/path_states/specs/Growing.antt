@@ -3,7 +3,7 @@ use Rattle.std.specs.Prelude.{◌≡◌, ◌<◌, ◌↔◌, ℕ, List, [], ◌�
 use Rattle.gcx_base.specs.declared.steps.Axis.{Axis}
 use Rattle.gcx_base.specs.declared.steps.Axis.TheVariants.{Child, Descendant}
 use Rattle.gcx_base.specs.declared.steps.Step.{Step}
-use Rattle.gcx_model.specs.Core.{RoleKind, Own, First, Whole, RoleRowTree, PlanTree}
+use Rattle.gcx_model.specs.Core.{RoleTarget, Own, First, Whole, RoleRowTree, PlanTree}
 use Rattle.gcx_model.specs.Held.{paths_from}
 use Rattle.gcx_model.specs.Members.{In}
 use Rattle.gcx_model.specs.Placed.{row_at}
@@ -15,7 +15,7 @@ use Rattle.path_states.specs.declared.paths.Way.{Way}
 -- what a path state tells: those below it by an axis, the roles of a kind that end at it, and those whose contexts its matches are
 pub data Told : Type 0 where
   Below : Axis → Told
-  Ends : RoleKind → Told
+  Ends : RoleTarget → Told
   Contexts : Told
 
 abbrev pub told_by : Told → PathState → List ℕ

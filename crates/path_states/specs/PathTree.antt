@@ -3,7 +3,7 @@ use Rattle.std.specs.Prelude.{◌≡◌, ◌<◌, ◌↔◌, ℕ, false, List, [
 use Rattle.gcx_base.specs.declared.steps.Axis.{Axis}
 use Rattle.gcx_base.specs.declared.steps.Axis.TheVariants.{Child, Descendant}
 use Rattle.gcx_base.specs.declared.steps.Step.{Step}
-use Rattle.gcx_model.specs.Core.{RoleKind, Own, First, Whole, RoleRowTree, PlanTree}
+use Rattle.gcx_model.specs.Core.{RoleTarget, Own, First, Whole, RoleRowTree, PlanTree}
 use Rattle.gcx_model.specs.ItemView.{role_kind}
 use Rattle.gcx_model.specs.Held.{path_of}
 use Rattle.gcx_base.specs.Tests.{passes}
@@ -23,7 +23,7 @@ pub record IsBelow (tree : List PathState) (axis : Axis) (p c : ℕ) : Type 0 wh
   pub same : state.step.axis ≡ axis
 
 -- the role r of this kind ends at the path state p
-pub record IsEnd (ways : List Way) (kind : RoleKind) (p r : ℕ) : Type 0 where
+pub record IsEnd (ways : List Way) (kind : RoleTarget) (p r : ℕ) : Type 0 where
   pub way : Way
   pub at : slice_get ways r ≡ Some way
   pub end : way.end ≡ p
@@ -46,14 +46,14 @@ pub record IsLinked (tree : List PathState) (ways : List Way) (p : ℕ) (s : Pat
   pub context : (r : ℕ) → In r s.context.items ↔ IsContext ways p r
 
 -- The first match of an empty tail is the context itself: it is given as Own is.
-abbrev pub kind_with : RoleKind → (tail : List Step) → RoleKind
+abbrev pub kind_with : RoleTarget → (tail : List Step) → RoleTarget
 kind_with Own tail = Own
 kind_with First [] = Own
 kind_with First (s ∷ tail) = First
 kind_with Whole tail = Whole
 
 -- an own role has no tail
-abbrev pub tail_with : RoleKind → (tail : List Step) → List Step
+abbrev pub tail_with : RoleTarget → (tail : List Step) → List Step
 tail_with Own tail = []
 tail_with First tail = tail
 tail_with Whole tail = tail

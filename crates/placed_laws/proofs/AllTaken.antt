@@ -5,7 +5,7 @@ pub use Rattle.gcx_model.specs.Equal.{off_eq}
 use Rattle.gcx_model.specs.Tree.{Node, Root, serial_of, Tree, is_closed}
 use Rattle.gcx_model.specs.Paths.{any, matches}
 use Rattle.gcx_base.specs.declared.steps.Step.{Step}
-use Rattle.gcx_model.specs.Core.{For, Off, BodyTree, OffTree, RoleRowTree}
+use Rattle.gcx_model.specs.Core.{For, SignOff, BodyTree, OffTree, RoleRowTree}
 use Rattle.gcx_model.specs.Truth.{Env, bind_var}
 use Rattle.gcx_model.specs.Run.{env0, Action, Wrote, Offed, Out, loop, seq, seq_if, run_item, run}
 use Rattle.tree_laws.proofs.Reading.{Reading, given, signed, taken}
@@ -46,7 +46,7 @@ module _ (P : Tree) (w : Grown P) (p : OffTree → Bool) (b : ℕ) where
       let q = seq_both (run_item i env P) (run rest env P) h in
       seq_right p (serial_of (env b)) (run_item i env P) (run rest env P) q.0 (own_signs rest env o q.1)
   own_signs d env (Itself {o = o} {d = rest} f g a) h =
-      seq_left p (serial_of (env b)) (run_item (Off o) env P) (run rest env P) refl (rw f (inl (ap (λ x. serial_of (env x)) g)))
+      seq_left p (serial_of (env b)) (run_item (SignOff o) env P) (run rest env P) refl (rw f (inl (ap (λ x. serial_of (env x)) g)))
 
   pub way_signs : (y : ℕ) (d : BodyTree) (path : List Step) → Way p b y d path → (env : Env) → (run d env P).done ≡ true → (n : Node) → In n (chain_at P (env y) path) → In (serial_of n) (sig p (run d env P).acts)
   way_signs y d path (Top o) env h n (inl e) = subst (λ (z : Node). In (serial_of z) (sig p (run d env P).acts)) e (own_signs d env o h)

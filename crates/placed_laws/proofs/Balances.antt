@@ -3,7 +3,7 @@ use Rattle.std.proofs.Common.{◌≡◌, ℕ, ◌≤◌, true, false, List, [], 
 use Rattle.std.specs.List.{filter}
 use Rattle.std.proofs.lemmas.Bool.{and_parts, false≢true}
 use Rattle.gcx_base.specs.declared.steps.Step.{Step}
-use Rattle.gcx_model.specs.Tree.{Node, serial_of, Tree, Token, grow_all}
+use Rattle.gcx_model.specs.Tree.{Node, serial_of, Tree, TreeToken, grow_all}
 use Rattle.gcx_model.specs.Paths.{matches}
 use Rattle.gcx_model.specs.Members.{In, Once}
 use Rattle.gcx_model.specs.Core.{BodyTree, OffTree, RoleRowTree, PlanTree}
@@ -28,7 +28,7 @@ use Rattle.tree_laws.proofs.Reading.{Reading, reading}
 use Rattle.tree_laws.proofs.Lists.{In-filter, In-kept}
 use Rattle.placed_laws.proofs.Lasting.{held_acted, held_back_all}
 
-balanced_at : (core : BodyTree) (good : Good core) (ts : List Token) → AllClosed (tree ts) → (n : Node) (r : ℕ) → taken (plan_of core) (tree ts) (actions (plan_of core) (tree ts)) n r ≡ given (plan_of core) (tree ts) n r
+balanced_at : (core : BodyTree) (good : Good core) (ts : List TreeToken) → AllClosed (tree ts) → (n : Node) (r : ℕ) → taken (plan_of core) (tree ts) (actions (plan_of core) (tree ts)) n r ≡ given (plan_of core) (tree ts) n r
 balanced_at core good ts c n r = go (row_at (roles_of core) r) refl
   where
     A : List Action
@@ -62,7 +62,7 @@ offs_at_matches core good plan pl P k r = from_state core good OffsAt (λ ts k s
     let h = once_at core good ts k s m i in
     (in_plan core good (plan_of core) (placed core good) s h.0, (h.1.0, subst (λ (z : List Step). In h.1.0 (matches (tree ts) 0 z)) (sym (path_is core good s.base)) h.1.1, h.1.2))) plan pl P k r
 
-stays_at : (core : BodyTree) (good : Good core) (ts us : List Token) (k j : ℕ) → k ≤ j → (n : Node) (r : ℕ) → In n (tree ts).nodes → taken (plan_of core) (tree ts) (so_far (plan_of core) (tree ts) k) n r ≡ true
+stays_at : (core : BodyTree) (good : Good core) (ts us : List TreeToken) (k j : ℕ) → k ≤ j → (n : Node) (r : ℕ) → In n (tree ts).nodes → taken (plan_of core) (tree ts) (so_far (plan_of core) (tree ts) k) n r ≡ true
     → taken (plan_of core) (grow_all us (tree ts)) (so_far (plan_of core) (grow_all us (tree ts)) j) n r ≡ true
 stays_at core good ts us k j l n r i h = go (row_at (roles_of core) r) refl
   where

@@ -6,7 +6,7 @@ use Rattle.std.proofs.lemmas.Bool.{false≢true}
 use Rattle.gcx_base.specs.declared.steps.Step.{Step}
 use Rattle.gcx_model.specs.Tree.{Node, serial_of, within, Tree, is_open_at}
 use Rattle.gcx_model.specs.Paths.{any, all, matches, head}
-use Rattle.gcx_model.specs.Core.{Write, Copy, For, If, Off, BodyTree, Nil, Then, OffTree, VarRowTree, RoleRowTree, PlanTree}
+use Rattle.gcx_model.specs.Core.{Write, Copy, For, If, SignOff, BodyTree, Nil, Then, OffTree, VarRowTree, RoleRowTree, PlanTree}
 use Rattle.gcx_model.specs.Run.{Action}
 use Rattle.gcx_model.specs.Variables.{Var, var0, var_tree, vars, var_rows}
 use Rattle.gcx_model.specs.Roles.{roles_of}
@@ -74,7 +74,7 @@ none_in L (Then (If c a b) d) q =
     let rb = none_in L b q.0.2 in
     let r = none_in L d q.1 in
     (rw (ra.0, rb.0) r.0, rw (ra.1, rb.1) r.1)
-none_in L (Then (Off o) d) q = absurd q.0
+none_in L (Then (SignOff o) d) q = absurd q.0
 
 module _ (F : ℕ → Var) where
   -- the paths of the variables below k
@@ -88,7 +88,7 @@ module _ (F : ℕ → Var) where
   paths_are Nil u k b L q f n l = ap upto (sym (add-zero k))
   paths_are (Then (Write s) d) u k b L q f n l = paths_are d u k b L q.1 f.1 n l
   paths_are (Then (Copy x) d) u k b L q f n l = paths_are d u k b L q.1 f.1 n l
-  paths_are (Then (Off o) d) u k b L q f n l = absurd q.0
+  paths_are (Then (SignOff o) d) u k b L q f n l = absurd q.0
   paths_are (Then (If c a e) d) u k b L q f n l =
       let ra = none_in L a q.0.1 in
       let re = none_in L e q.0.2 in

@@ -4,7 +4,7 @@ use Rattle.std.specs.List.{filter}
 use Rattle.std.proofs.lemmas.List.{append-nil}
 use Rattle.std.proofs.lemmas.Bool.{and_parts, and_from, true≢false, false≢true, eqb-true, eq-eqb, ne_eqb, not-true}
 use Rattle.gcx_base.specs.declared.steps.Step.{Step}
-use Rattle.gcx_model.specs.Core.{CondTree, Always, Exists, Compare, Not, All, Any, CondTrees, no_cond, more_conds, OperandTree, Path, Str, Num, ItemTree, Write, Copy, For, If, Off, BodyTree, Nil, Then, OffTree, RoleRowTree}
+use Rattle.gcx_model.specs.Core.{CondTree, Always, Exists, Compare, Not, AllOf, AnyOf, CondTrees, no_cond, more_conds, OperandTree, Path, Str, Num, ItemTree, Write, Copy, For, If, SignOff, BodyTree, Nil, Then, OffTree, RoleRowTree}
 use Rattle.gcx_model.specs.Variables.{Var, var0, is_straight, child_var, var_of, set_var, tree_item, tree_body, var_tree, item_vars, vars}
 use Rattle.gcx_model.specs.Roles.{operand_rows, cond_rows, conds_rows, own_row, rows, roles_of}
 use Rattle.gcx_model.specs.Placed.{is_own, statement, statements, at_end, offs_body, add_offs, place, offs_of}
@@ -137,7 +137,7 @@ module _ (F : ℕ → Var) where
     Fits_item u (Copy x) = Unit {0}
     Fits_item u (For x y s d) = (F x ≡ var_of u x y s (F y)) × Fits x d
     Fits_item u (If c a b) = Unit {0}
-    Fits_item u (Off o) = Unit {0}
+    Fits_item u (SignOff o) = Unit {0}
 
     pub Fits : ℕ → BodyTree → Type 0
     Fits u Nil = Unit {0}
@@ -149,7 +149,7 @@ mutual
   away_item (Copy x) u F z h = refl
   away_item (For x y s d) u F z h = away_body d x (set_var F x (var_of u x y s (F y))) z (λ i. h (inr i)) ∙ rw (ne_eqb z x (λ e. h (inl (sym e)))) refl
   away_item (If c a b) u F z h = away_body b u (tree_body a u F) z (λ i. h (In-right z (vars a) (vars b) i)) ∙ away_body a u F z (λ i. h (In-left z (vars a) (vars b) i))
-  away_item (Off o) u F z h = refl
+  away_item (SignOff o) u F z h = refl
 
   pub away_body : (d : BodyTree) (u : ℕ) (F : ℕ → Var) (z : ℕ) → (In z (vars d) → ⊥) → tree_body d u F z ≡ F z
   away_body Nil u F z h = refl
@@ -160,7 +160,7 @@ fits : (G : ℕ → Var) (d : BodyTree) (u : ℕ) (F : ℕ → Var) (b : Bool) (
 fits G Nil u F b L q o a h = tt
 fits G (Then (Write s) d) u F b L q o a h = (tt, fits G d u F b L q.1 o a h)
 fits G (Then (Copy x) d) u F b L q o a h = (tt, fits G d u F b L q.1 o a h)
-fits G (Then (Off t) d) u F b L q o a h = absurd q.0
+fits G (Then (SignOff t) d) u F b L q o a h = absurd q.0
 fits G (Then (If c e f) d) u F b L q o a h = (
   tt,
   fits G d u (tree_item (If c e f) u F) b L q.1 (Once-right (vars e ++ vars f) (vars d) o) (λ z i j. a z i (In-right z (vars e ++ vars f) (vars d) j))
@@ -232,7 +232,7 @@ module _ (F : ℕ → Var) (K : List ℕ) where
   no_vars L (Then (Write s) d) q z i = no_vars L d q.1 z i
   no_vars L (Then (Copy x) d) q z i = no_vars L d q.1 z i
   no_vars L (Then (For x y s e) d) q z i = absurd (false≢true q.0.0)
-  no_vars L (Then (Off o) d) q z i = q.0
+  no_vars L (Then (SignOff o) d) q z i = q.0
   no_vars L (Then (If c a b) d) q z i = elim (In-append z (vars a ++ vars b) (vars d) i) [
     | inl j ↦ elim (In-append z (vars a) (vars b) j) [ inl k ↦ no_vars L a q.0.1 z k | inr k ↦ no_vars L b q.0.2 z k ]
     | inr j ↦ no_vars L d q.1 z j
@@ -242,7 +242,7 @@ module _ (F : ℕ → Var) (K : List ℕ) where
   based Nil u b L q f k h z i = absurd i
   based (Then (Write s) d) u b L q f k h z i = based d u b L q.1 f.1 k h z i
   based (Then (Copy x) d) u b L q f k h z i = based d u b L q.1 f.1 k h z i
-  based (Then (Off t) d) u b L q f k h z i = absurd q.0
+  based (Then (SignOff t) d) u b L q f k h z i = absurd q.0
   based (Then (If c a e) d) u b L q f k h z i = elim (In-append z (vars a ++ vars e) (vars d) i) [
     | inl j ↦ absurd (elim (In-append z (vars a) (vars e) j) [ inl m ↦ no_vars L a q.0.1 z m | inr m ↦ no_vars L e q.0.2 z m ])
     | inr j ↦ based d u b L q.1 f.1 (λ y m. k y (In-right y (vars a ++ vars e) (vars d) m)) h z j
@@ -294,8 +294,8 @@ mutual
   cond_rows_in L (Exists x tail) h r (inr i) = absurd i
   cond_rows_in L (Compare l q s) h r i = elim (In-append r (operand_rows l) (operand_rows s) i) [ inl j ↦ operand_rows_in L l h.0 r j | inr j ↦ operand_rows_in L s h.1 r j ]
   cond_rows_in L (Not c) h r i = cond_rows_in L c h r i
-  cond_rows_in L (All cs) h r i = conds_rows_in L cs h r i
-  cond_rows_in L (Any cs) h r i = conds_rows_in L cs h r i
+  cond_rows_in L (AllOf cs) h r i = conds_rows_in L cs h r i
+  cond_rows_in L (AnyOf cs) h r i = conds_rows_in L cs h r i
 
   conds_rows_in : (L : List ℕ) (cs : CondTrees) → conds_in L cs → (r : RoleRowTree) → In r (conds_rows cs) → In r.var L
   conds_rows_in L no_cond h r i = absurd i
@@ -304,7 +304,7 @@ mutual
 rows_in : (d : BodyTree) (b : Bool) (L : List ℕ) → BodyIn b L d → (r : RoleRowTree) → In r (rows d) → In r.var L ⊎ In r.var (vars d)
 rows_in Nil b L q r i = absurd i
 rows_in (Then (Write s) d) b L q r i = rows_in d b L q.1 r i
-rows_in (Then (Off o) d) b L q r i = absurd q.0
+rows_in (Then (SignOff o) d) b L q r i = absurd q.0
 rows_in (Then (Copy x) d) b L q r i = elim i [ inl e ↦ inl (subst (λ (z : RoleRowTree). In z.var L) e q.0) | inr j ↦ rows_in d b L q.1 r j ]
 rows_in (Then (For x y s e) d) b L q r i = elim (In-append r (own_row x ∷ rows e) (rows d) i) [
   | inl j ↦ elim j [
@@ -359,7 +359,7 @@ module _ (ends : ℕ → List OffTree) (p : OffTree → Bool) (b : ℕ) where
   quiet_core Nil c L q = refl
   quiet_core (Then (Write s) d) c L q = quiet_core d c L q.1
   quiet_core (Then (Copy x) d) c L q = quiet_core d c L q.1
-  quiet_core (Then (Off o) d) c L q = absurd q.0
+  quiet_core (Then (SignOff o) d) c L q = absurd q.0
   quiet_core (Then (For x y s e) d) c L q = and_from _ _ (quiet_core e c (x ∷ L) q.0.2) (quiet_core d c L q.1)
   quiet_core (Then (If k a e) d) c L q = and_from _ _ (and_from _ _ (quiet_core a false L q.0.1) (quiet_core e false L q.0.2)) (quiet_core d c L q.1)
 
@@ -369,7 +369,7 @@ module _ (ends : ℕ → List OffTree) (p : OffTree → Bool) (b : ℕ) where
     away Nil c L q h = refl
     away (Then (Write s) d) c L q h = away d c L q.1 h
     away (Then (Copy x) d) c L q h = away d c L q.1 h
-    away (Then (Off o) d) c L q h = absurd q.0
+    away (Then (SignOff o) d) c L q h = absurd q.0
     away (Then (If k a e) d) c L q h =
         and_from _ _ (and_from _ _ (quiet_core a false L q.0.1) (quiet_core e false L q.0.2)) (away d c L q.1 (λ i. h (In-right b (vars a ++ vars e) (vars d) i)))
     away (Then (For x y s e) d) c L q h =
@@ -408,7 +408,7 @@ module _ (ends : ℕ → List OffTree) (p : OffTree → Bool) (b : ℕ) where
       find u Nil c L os q f o i st h = absurd i
       find u (Then (Write s) d) c L os q f o i st h = skip_found u (Write s) _ refl (find u d c L os q.1 f.1 o i st h)
       find u (Then (Copy x) d) c L os q f o i st h = skip_found u (Copy x) _ refl (find u d c L os q.1 f.1 o i st h)
-      find u (Then (Off t) d) c L os q f o i st h = absurd q.0
+      find u (Then (SignOff t) d) c L os q f o i st h = absurd q.0
       find u (Then (If k a e) d) c L os q f o i st h =
           skip_found u (If k a e) _ (and_from _ _ (quiet_core a false L q.0.1) (quiet_core e false L q.0.2))
           (find u d c L os q.1 f.1 (Once-right (vars a ++ vars e) (vars d) o) (elim (In-append b (vars a ++ vars e) (vars d) i) [

@@ -6,9 +6,9 @@ use Rattle.std.proofs.lemmas.List.{append-nil, take-append-drop}
 use Rattle.std.proofs.lemmas.Bool.{or_cases, or_left, or_right, or_from, and_parts, false_from_ne_true, and_from, false≢true, true≢false, eq-eqb, not-true, ne_eqb}
 use Rattle.gcx_base.specs.declared.kind.Kind.{Kind}
 use Rattle.gcx_base.specs.declared.kind.Kind.TheVariants.{Document, Element, Text}
-use Rattle.gcx_model.specs.Tree.{Node, Root, Under, serial_of, kind_of, within, is_open_at, Tree, Token, opening, grow, grow_all, is_closed}
+use Rattle.gcx_model.specs.Tree.{Node, Root, Under, serial_of, kind_of, within, is_open_at, Tree, TreeToken, opening, grow, grow_all, is_closed}
 use Rattle.gcx_model.specs.Paths.{any, all, matches}
-use Rattle.gcx_model.specs.Core.{ItemTree, Write, Copy, For, If, Off, BodyTree, Nil, Then, OffTree, RoleRowTree}
+use Rattle.gcx_model.specs.Core.{ItemTree, Write, Copy, For, If, SignOff, BodyTree, Nil, Then, OffTree, RoleRowTree}
 use Rattle.gcx_model.specs.declared.truth.Truth.{Truth}
 use Rattle.gcx_model.specs.declared.truth.Truth.TheVariants.{True, False, Unknown}
 use Rattle.gcx_model.specs.Truth.{Env, bind_var, truth}
@@ -53,7 +53,7 @@ pub points : (core : BodyTree) (P : Tree) (k : ℕ) → (fs : List Frame) × IsP
 points core P k = point P (reading core).body env0 (so_far core P k) (drop k (actions core P)) (sym (take-append-drop k (actions core P)))
 
 -- The need law. At each point behind the first k actions, what the point needs is held.
-pub need : (core : BodyTree) → Good core → (ts : List Token) (k : ℕ) (fs : List Frame) → IsPoint (tree ts) (reading core).body env0 (so_far core (tree ts) k) fs
+pub need : (core : BodyTree) → Good core → (ts : List TreeToken) (k : ℕ) (fs : List Frame) → IsPoint (tree ts) (reading core).body env0 (so_far core (tree ts) k) fs
     → (m : Node) → In m (tree ts).nodes → Needs (tree ts) [] fs m → In m (held (reading core) (tree ts) (so_far core (tree ts) k))
 need core good ts k fs st m i h =
     In-kept (is_held (reading core) (tree ts) (so_far core (tree ts) k)) m (tree ts).nodes i
@@ -68,7 +68,7 @@ module _ (Q : OffTree → Type 0) where
     Only_item (Copy x) = Unit {0}
     Only_item (For x y s d) = Only d
     Only_item (If c a b) = Only a × Only b
-    Only_item (Off o) = Q o
+    Only_item (SignOff o) = Q o
 
     pub Only : BodyTree → Type 0
     Only Nil = Unit {0}
@@ -113,11 +113,11 @@ module _ (Q : OffTree → Type 0) where
       item_only (Copy x) env o n q h = absurd (no_copy o n (length P.nodes) (env x) h)
       item_only (For x y s d) env o n q h = let r = In-loop (Offed o n) (λ m. run d (bind_var env x m) P) (matches P (serial_of (env y)) (s ∷ [])) (is_closed P (env y)) h in run_only d (bind_var env x r.0) o n q r.2
       item_only (If c a b) env o n q h = elim (In-choose (Offed o n) (truth c env P) (run a env P) (run b env P) h) [ inl i ↦ run_only a env o n q.0 i | inr i ↦ run_only b env o n q.1 i ]
-      item_only (Off t) env o n q (inl e) = subst Q (same t o (serial_of (env t.base)) n e) q
+      item_only (SignOff t) env o n q (inl e) = subst Q (same t o (serial_of (env t.base)) n e) q
         where
           same : (a b : OffTree) (i j : ℕ) → Offed a i ≡ Offed b j → a ≡ b
           same a b i j e = cc
-      item_only (Off t) env o n q (inr i) = absurd i
+      item_only (SignOff t) env o n q (inr i) = absurd i
 
       run_only : (d : BodyTree) (env : Env) (o : OffTree) (n : ℕ) → Only d → In (Offed o n) (run d env P).acts → Q o
       run_only Nil env o n q h = absurd h
@@ -137,7 +137,7 @@ module _ (Q : OffTree → Type 0) where
   only_core (Then (Copy x) d) b L q = (tt, only_core d b L q.1)
   only_core (Then (For x y s e) d) b L q = (only_core e b (x ∷ L) q.0.2, only_core d b L q.1)
   only_core (Then (If c a e) d) b L q = ((only_core a false L q.0.1, only_core e false L q.0.2), only_core d b L q.1)
-  only_core (Then (Off o) d) b L q = absurd q.0
+  only_core (Then (SignOff o) d) b L q = absurd q.0
 
   only_place : (ends : ℕ → List OffTree) → ((x : ℕ) (o : OffTree) → In o (ends x) → Q o) → (d : BodyTree) (b : Bool) (L : List ℕ) → BodyIn b L d → Only (place ends d)
   only_place ends h Nil b L q = tt
@@ -145,7 +145,7 @@ module _ (Q : OffTree → Type 0) where
   only_place ends h (Then (Copy x) d) b L q = (tt, only_place ends h d b L q.1)
   only_place ends h (Then (For x y s e) d) b L q = (only_add (place ends e) (ends x) (only_place ends h e b (x ∷ L) q.0.2) (h x), only_place ends h d b L q.1)
   only_place ends h (Then (If c a e) d) b L q = ((only_core a false L q.0.1, only_core e false L q.0.2), only_place ends h d b L q.1)
-  only_place ends h (Then (Off o) d) b L q = absurd q.0
+  only_place ends h (Then (SignOff o) d) b L q = absurd q.0
 
 pub plan_only : (core : BodyTree) → Good core → Only (λ t. In t (offs_of core)) (reading core).body
 plan_only core good =
@@ -230,13 +230,13 @@ once_take p (suc k) (Offed o m ∷ xs) h = go (p o) (once_take p k xs) h
     go false ih h = ih h
 
 -- The once law. No two of the first k actions are the same Off.
-pub once : (core : BodyTree) → Good core → (ts : List Token) (k : ℕ) → Once (filter is_taking (so_far core (tree ts) k))
+pub once : (core : BodyTree) → Good core → (ts : List TreeToken) (k : ℕ) → Once (filter is_taking (so_far core (tree ts) k))
 once core good ts k = once_from (so_far core (tree ts) k) (λ o n i.
     let w = plan_way core good o (plan_takes core good (tree ts) o n (in_take k (actions core (tree ts)) (Offed o n) i)) in
     once_take (off_eq o) k (actions core (tree ts)) (way_once (tree ts) (grown ts) (off_eq o) o.base 0 (reading core).body (var_tree core o.base).path w.0 env0 (root_in ts) w.1))
 
 -- Each Off of them is a statement of the plan, at a match of its base's path.
-pub once_at : (core : BodyTree) → Good core → (ts : List Token) (k : ℕ) (s : OffTree) (m : ℕ) → In (Offed s m) (so_far core (tree ts) k)
+pub once_at : (core : BodyTree) → Good core → (ts : List TreeToken) (k : ℕ) (s : OffTree) (m : ℕ) → In (Offed s m) (so_far core (tree ts) k)
     → In s (reading core).offs × ((n : Node) × In n (matches (tree ts) 0 ((reading core).paths s.base)) × (serial_of n ≡ m))
 once_at core good ts k s m i =
     let P : Tree = tree ts in
@@ -256,7 +256,7 @@ In-take_more (suc k) zero (z ∷ xs) ys x l h = absurd (omega arith)
 In-take_more (suc k) (suc j) (z ∷ xs) ys x l (inl e) = inl e
 In-take_more (suc k) (suc j) (z ∷ xs) ys x l (inr i) = inr (In-take_more k j xs ys x (omega arith) i)
 
-pub so_far_stays : (core : BodyTree) (ts us : List Token) (k j : ℕ) → k ≤ j → (a : Action) → In a (so_far core (tree ts) k) → In a (so_far core (grow_all us (tree ts)) j)
+pub so_far_stays : (core : BodyTree) (ts us : List TreeToken) (k j : ℕ) → k ≤ j → (a : Action) → In a (so_far core (tree ts) k) → In a (so_far core (grow_all us (tree ts)) j)
 so_far_stays core ts us k j l a i = go (run_grows_all us (tree ts) (grown ts) (reading core).body env0 (root_bound (tree ts) (grown ts) (root_in ts)))
   where
     go : Before (run (reading core).body env0 (tree ts)) (run (reading core).body env0 (grow_all us (tree ts))) → In a (so_far core (grow_all us (tree ts)) j)
@@ -275,12 +275,12 @@ taken_acted p P A B n r o h e =
       | inr f ↦ or_right _ _ (signed_more P A B o m h f)
     ]))
 
-taken_fed_all : (us : List Token) (P : Tree) (w : Grown P) (p : Reading) (A : List Action) (n : Node) (r : RoleRowTree) (o : OffTree) → In n P.nodes → taken p P A n r o ≡ true → taken p (grow_all us P) A n r o ≡ true
+taken_fed_all : (us : List TreeToken) (P : Tree) (w : Grown P) (p : Reading) (A : List Action) (n : Node) (r : RoleRowTree) (o : OffTree) → In n P.nodes → taken p P A n r o ≡ true → taken p (grow_all us P) A n r o ≡ true
 taken_fed_all [] P w p A n r o i h = h
 taken_fed_all (t ∷ us) P w p A n r o i h = taken_fed_all us (grow t P) (Grown-grow t P w) p A n r o (nodes_stay (t ∷ []) P n i) (taken_fed t P w p A n r o i h)
 
 -- What is taken in a core state is taken in each that Feeds and Acts reach from there.
-pub taken_stays : (core : BodyTree) (ts us : List Token) (k j : ℕ) → k ≤ j → (n : Node) (r : RoleRowTree) (s : OffTree) → In n (tree ts).nodes
+pub taken_stays : (core : BodyTree) (ts us : List TreeToken) (k j : ℕ) → k ≤ j → (n : Node) (r : RoleRowTree) (s : OffTree) → In n (tree ts).nodes
     → taken (reading core) (tree ts) (so_far core (tree ts) k) n r s ≡ true → taken (reading core) (grow_all us (tree ts)) (so_far core (grow_all us (tree ts)) j) n r s ≡ true
 taken_stays core ts us k j l n r s i h =
     taken_acted (reading core) (grow_all us (tree ts)) (so_far core (tree ts) k) (so_far core (grow_all us (tree ts)) j) n r s (so_far_stays core ts us k j l)
@@ -290,11 +290,11 @@ abbrev pub All_closed : Tree → Type 0
 All_closed P = (m : Node) → In m P.nodes → is_closed P m ≡ true
 
 -- The closed law. Where every node is closed, the run is done.
-pub done : (core : BodyTree) (ts : List Token) → All_closed (tree ts) → (run (reading core).body env0 (tree ts)).done ≡ true
+pub done : (core : BodyTree) (ts : List TreeToken) → All_closed (tree ts) → (run (reading core).body env0 (tree ts)).done ≡ true
 done core ts c = run_is_done (tree ts) (grown ts) (closed_all (tree ts) (c Root (root_in ts))) (reading core).body env0 (λ x. root_in ts)
 
 -- The balance law. Where every node is closed and A is all of the run, each role of each node is taken exactly where it is given.
-pub balanced : (core : BodyTree) → Good core → (ts : List Token) → All_closed (tree ts) → (n : Node) (r : RoleRowTree) (s : OffTree) → At_row r s (reading core).roles (reading core).offs
+pub balanced : (core : BodyTree) → Good core → (ts : List TreeToken) → All_closed (tree ts) → (n : Node) (r : RoleRowTree) (s : OffTree) → At_row r s (reading core).roles (reading core).offs
     → taken (reading core) (tree ts) (actions core (tree ts)) n r s ≡ given (reading core) (tree ts) n r
 balanced core good ts c n r s row = go (given (reading core) (tree ts) n r) refl
   where
@@ -313,7 +313,7 @@ live_none p P A n (r ∷ rs) (o ∷ os) h =
     neither false b e = refl
 
 -- So nothing is held at the end.
-pub empty_at_end : (core : BodyTree) → Good core → (ts : List Token) → All_closed (tree ts) → held (reading core) (tree ts) (actions core (tree ts)) ≡ []
+pub empty_at_end : (core : BodyTree) → Good core → (ts : List TreeToken) → All_closed (tree ts) → held (reading core) (tree ts) (actions core (tree ts)) ≡ []
 empty_at_end core good ts c =
     filter_none (is_held (reading core) (tree ts) (actions core (tree ts))) (tree ts).nodes (λ n i.
     or_from (is_open_at (tree ts).at (serial_of n)) (any (λ m. within (serial_of n) m && is_live (reading core) (tree ts) (actions core (tree ts)) m) (tree ts).nodes) (rw (closed_all (tree ts) (c Root (root_in ts))) refl)

@@ -3,7 +3,7 @@ use Rattle.std.proofs.Common.{◌≡◌, ℕ, zero, suc, ◌+◌, ◌≤◌, tru
 use Rattle.std.specs.Prelude.{take}
 use Rattle.std.proofs.lemmas.List.{length-append}
 use Rattle.std.proofs.lemmas.Bool.{and_parts}
-use Rattle.gcx_model.specs.Tree.{Tree, Token, opening, grow, grow_all}
+use Rattle.gcx_model.specs.Tree.{Tree, TreeToken, opening, grow, grow_all}
 use Rattle.gcx_model.specs.Core.{PlanTree}
 use Rattle.gcx_model.specs.Run.{Action, Out, run, env0}
 use Rattle.gcx_model.specs.Growth.{may_come, may_all}
@@ -14,7 +14,7 @@ use Rattle.placed_laws.proofs.Whole.{prefix}
 use Rattle.tree_laws.proofs.Fed.{tree}
 use Rattle.tree_laws.proofs.Growing.{grows, grow_all-append}
 
-grow_last : (ts : List Token) (t : Token) → grow t (tree ts) ≡ tree (ts ++ t ∷ [])
+grow_last : (ts : List TreeToken) (t : TreeToken) → grow t (tree ts) ≡ tree (ts ++ t ∷ [])
 grow_last ts t = sym (grow_all-append ts (t ∷ []) opening)
 
 front : (a b : Out) → Before a b → (rest : List Action) × (b.acts ≡ a.acts ++ rest)
@@ -41,16 +41,16 @@ module _ (plan : PlanTree) where
   act_on P k zero l r = subst (λ (z : ℕ). CoreState plan P z) (sym (add-zero k)) r
   act_on P k (suc n) l r = let e : suc k + n ≡ k + suc n = omega arith in subst (λ (z : ℕ). CoreState plan P z) e (act_on P (suc k) n (omega arith) (acted r (omega arith)))
 
-  longer : (ts : List Token) (t : Token) → (rest : List Action) × (actions plan (grow t (tree ts)) ≡ actions plan (tree ts) ++ rest)
+  longer : (ts : List TreeToken) (t : TreeToken) → (rest : List Action) × (actions plan (grow t (tree ts)) ≡ actions plan (tree ts) ++ rest)
   longer ts t = front (run plan.body env0 (tree ts)) (run plan.body env0 (grow t (tree ts))) (prefix ts (t ∷ []) plan.body)
 
-  reached_on : (ts : List Token) (t : Token) → may_come t (tree ts) ≡ true → CoreState plan (tree ts) (long (tree ts)) → CoreState plan (grow t (tree ts)) (long (grow t (tree ts)))
+  reached_on : (ts : List TreeToken) (t : TreeToken) → may_come t (tree ts) ≡ true → CoreState plan (tree ts) (long (tree ts)) → CoreState plan (grow t (tree ts)) (long (grow t (tree ts)))
   reached_on ts t m r =
       let h = longer ts t in
       let l : long (grow t (tree ts)) ≡ long (tree ts) + length h.0 = ap length h.1 ∙ length-append (actions plan (tree ts)) h.0 in
       subst (λ (z : ℕ). CoreState plan (grow t (tree ts)) z) (sym l) (act_on (grow t (tree ts)) (long (tree ts)) (length h.0) (omega arith) (fed r (grows t (tree ts) m)))
 
-  reached_from : (ts us : List Token) → may_all us (tree ts) ≡ true → CoreState plan (tree ts) (long (tree ts)) → CoreState plan (grow_all us (tree ts)) (long (grow_all us (tree ts)))
+  reached_from : (ts us : List TreeToken) → may_all us (tree ts) ≡ true → CoreState plan (tree ts) (long (tree ts)) → CoreState plan (grow_all us (tree ts)) (long (grow_all us (tree ts)))
   reached_from ts [] m r = r
   reached_from ts (t ∷ us) m r =
       let a = and_parts (may_come t (tree ts)) (may_all us (grow t (tree ts))) m in

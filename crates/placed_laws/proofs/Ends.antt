@@ -3,7 +3,7 @@ use Rattle.std.proofs.Common.{◌≡◌, ℕ, zero, suc, ◌+◌, ◌<◌, ◌�
 use Rattle.std.specs.List.{filter}
 use Rattle.std.proofs.lemmas.Bool.{and_parts, and_from, false≢true, true≢false, eqb-true, eq-eqb, not-true}
 use Rattle.gcx_base.specs.declared.steps.Step.{Step}
-use Rattle.gcx_model.specs.Core.{OperandTree, Path, Str, Num, CondTree, CondTrees, Always, Exists, Compare, Not, All, Any, no_cond, more_conds, RoleKind, Own, First, Whole, ItemTree, Write, Copy, For, If, Off, BodyTree, Nil, Then, OffTree, RoleRowTree}
+use Rattle.gcx_model.specs.Core.{OperandTree, Path, Str, Num, CondTree, CondTrees, Always, Exists, Compare, Not, AllOf, AnyOf, no_cond, more_conds, RoleTarget, Own, First, Whole, ItemTree, Write, Copy, For, If, SignOff, BodyTree, Nil, Then, OffTree, RoleRowTree}
 use Rattle.gcx_model.specs.Variables.{Var, is_straight, child_var, var_tree, vars, item_vars}
 use Rattle.gcx_model.specs.Roles.{own_row, whole_row, operand_rows, cond_rows, conds_rows, item_rows, rows, roles_of}
 use Rattle.gcx_model.specs.Cores.{BodyIn, Good}
@@ -38,8 +38,8 @@ mutual
   own_cond (Exists x tail) = refl
   own_cond (Compare l rel r) = own_vars-append (operand_rows l) (operand_rows r) ∙ rw (own_operand l, own_operand r) refl
   own_cond (Not c) = own_cond c
-  own_cond (All cs) = own_conds cs
-  own_cond (Any cs) = own_conds cs
+  own_cond (AllOf cs) = own_conds cs
+  own_cond (AnyOf cs) = own_conds cs
 
   own_conds : (cs : CondTrees) → own_vars (conds_rows cs) ≡ []
   own_conds no_cond = refl
@@ -51,7 +51,7 @@ mutual
   own_item (Copy x) = refl
   own_item (For x y s d) = ap (λ z. x ∷ z) (own_rows d)
   own_item (If c a b) = own_vars-append (cond_rows c) (rows a ++ rows b) ∙ (ap (λ z. z ++ own_vars (rows a ++ rows b)) (own_cond c) ∙ (own_vars-append (rows a) (rows b) ∙ (ap (λ z. z ++ own_vars (rows b)) (own_rows a) ∙ ap (λ z. vars a ++ z) (own_rows b))))
-  own_item (Off o) = refl
+  own_item (SignOff o) = refl
 
   own_rows : (d : BodyTree) → own_vars (rows d) ≡ vars d
   own_rows Nil = refl
@@ -74,8 +74,8 @@ mutual
   plain_cond (Exists x tail) r (inr i) = absurd i
   plain_cond (Compare l rel q) r i = elim (In-append r (operand_rows l) (operand_rows q) i) [ inl j ↦ plain_operand l r j | inr j ↦ plain_operand q r j ]
   plain_cond (Not c) r i = plain_cond c r i
-  plain_cond (All cs) r i = plain_conds cs r i
-  plain_cond (Any cs) r i = plain_conds cs r i
+  plain_cond (AllOf cs) r i = plain_conds cs r i
+  plain_cond (AnyOf cs) r i = plain_conds cs r i
 
   plain_conds : (cs : CondTrees) (r : RoleRowTree) → In r (conds_rows cs) → Plain r
   plain_conds no_cond r i = absurd i
@@ -98,7 +98,7 @@ mutual
     | inl j ↦ plain_cond c r j
     | inr j ↦ elim (In-append r (rows a) (rows b) j) [ inl k ↦ plain_rows a r k | inr k ↦ plain_rows b r k ]
   ]
-  plain_item (Off o) r i = absurd i
+  plain_item (SignOff o) r i = absurd i
 
   plain_rows : (d : BodyTree) (r : RoleRowTree) → In r (rows d) → Plain r
   plain_rows Nil r i = absurd i
@@ -233,7 +233,7 @@ parent_of : (F : ℕ → Var) (d : BodyTree) (u : ℕ) (b : Bool) (L : List ℕ)
 parent_of F Nil u b L q f z i = absurd i
 parent_of F (Then (Write t) d) u b L q f z i = parent_of F d u b L q.1 f.1 z i
 parent_of F (Then (Copy x) d) u b L q f z i = parent_of F d u b L q.1 f.1 z i
-parent_of F (Then (Off o) d) u b L q f z i = absurd q.0
+parent_of F (Then (SignOff o) d) u b L q f z i = absurd q.0
 parent_of F (Then (If c a e) d) u b L q f z i = elim (In-append z (vars a ++ vars e) (vars d) i) [
   | inl j ↦ absurd (elim (In-append z (vars a) (vars e) j) [ inl m ↦ no_vars F L L a q.0.1 z m | inr m ↦ no_vars F L L e q.0.2 z m ])
   | inr j ↦ parent_of F d u b L q.1 f.1 z j
@@ -281,7 +281,7 @@ module _ (core : BodyTree) (good : Good core) where
       go true y s e = ap (λ (z : Var). z.base) e
       go false y s e = absurd (false≢true (sym (no_append (V y).rel s) ∙ (ap (λ (z : Var). is_empty z.rel) (sym e) ∙ h)))
 
-  own_kind : (k : RoleKind) → is_own_kind k ≡ true → k ≡ Own
+  own_kind : (k : RoleTarget) → is_own_kind k ≡ true → k ≡ Own
   own_kind Own e = refl
   own_kind First e = absurd (false≢true e)
   own_kind Whole e = absurd (false≢true e)

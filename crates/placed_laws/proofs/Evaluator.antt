@@ -2,10 +2,10 @@
 use Rattle.std.proofs.Common.{◌≡◌, ℕ, true, List, [], ◌∷◌, ◌++◌, refl, sym, ap, subst, inl, inr, append_assoc, ltb}
 use Rattle.placed_laws.proofs.CorePlans.{good_zero}
 use Rattle.gcx_model.specs.Needs.{Uses}
-use Rattle.gcx_model.specs.Tree.{Node, serial_of, Tree, Token}
+use Rattle.gcx_model.specs.Tree.{Node, serial_of, Tree, TreeToken}
 use Rattle.gcx_base.specs.declared.steps.Step.{Step}
 use Rattle.gcx_model.specs.Paths.{hits, matches}
-use Rattle.gcx_model.specs.Core.{CondTree, For, If, Off, BodyTree, Then, OffTree, ItemTree, Write, Copy}
+use Rattle.gcx_model.specs.Core.{CondTree, For, If, SignOff, BodyTree, Then, OffTree, ItemTree, Write, Copy}
 use Rattle.gcx_model.specs.Truth.{Env, truth}
 use Rattle.gcx_model.specs.Run.{env0, Offed, copy}
 use Rattle.tree_laws.proofs.Reading.{is_held, reading}
@@ -14,7 +14,7 @@ use Rattle.gcx_model.specs.Roles.{whole_row, roles_of}
 use Rattle.gcx_model.specs.Cores.{Good}
 use Rattle.tree_laws.proofs.Lists.{In, In-filter}
 use Rattle.tree_laws.proofs.Matches.{Matches-in, Grown}
-use Rattle.placed_laws.proofs.PointForms.{Frame, Rest, Round, Part, IsPoint, later}
+use Rattle.placed_laws.proofs.PointForms.{Frame, Rest, LoopRound, CopyPart, IsPoint, later}
 use Rattle.placed_laws.proofs.Waits.{Waits, waits_unsigned, Waits-right}
 use Rattle.placed_laws.proofs.Frames.{waits_bound, Here, Bound_in, Turn, Fact, Facts, facts, hit_on, Loop, Fact_item, bound_hit}
 use Rattle.placed_laws.proofs.Need.{Frame_needs, Needs, needs_held}
@@ -36,7 +36,7 @@ frame_needs P pre (g ∷ top) f below m h = inr (frame_needs P (pre ++ g ∷ [])
 abbrev pub held_tree : BodyTree → Tree → ℕ → Tree
 held_tree core P k = pruned (is_held (reading core) P (so_far core P k)) P
 
-module _ (core : BodyTree) (good : Good core) (ts : List Token) (k : ℕ) (top : List Frame) (below : List Frame) where
+module _ (core : BodyTree) (good : Good core) (ts : List TreeToken) (k : ℕ) (top : List Frame) (below : List Frame) where
   abbrev pub At : Frame → Type 0
   At f = IsPoint (tree ts) (reading core).body env0 (so_far core (tree ts) k) (top ++ f ∷ below)
 
@@ -48,9 +48,9 @@ module _ (core : BodyTree) (good : Good core) (ts : List Token) (k : ℕ) (top :
   truth_held c a b d env st = truth_kept (tree ts) (grown ts) (is_held (reading core) (tree ts) (so_far core (tree ts) k)) c env (λ m i h. frame_held (Rest (Then (If c a b) d) env) st m i (inl h))
 
   -- so have the later matches of a loop
-  pub turns_held : (x y : ℕ) (s : Step) (e : BodyTree) (env : Env) (n : Node) → At (Round x y s e env n) → later n (matches (held_tree core (tree ts) k) (serial_of (env y)) (s ∷ [])) ≡ later n (matches (tree ts) (serial_of (env y)) (s ∷ []))
+  pub turns_held : (x y : ℕ) (s : Step) (e : BodyTree) (env : Env) (n : Node) → At (LoopRound x y s e env n) → later n (matches (held_tree core (tree ts) k) (serial_of (env y)) (s ∷ [])) ≡ later n (matches (tree ts) (serial_of (env y)) (s ∷ []))
   turns_held x y s e env n st = later_held (reading core) (tree ts) (so_far core (tree ts) k) (serial_of (env y)) (s ∷ []) n (λ m i.
-      frame_held (Round x y s e env n) st m (Matches-in (tree ts) (serial_of (env y)) (s ∷ []) m (In-filter (λ (j : Node). ltb (serial_of n) (serial_of j)) m (matches (tree ts) (serial_of (env y)) (s ∷ [])) i).0).0 (inl (inr i)))
+      frame_held (LoopRound x y s e env n) st m (Matches-in (tree ts) (serial_of (env y)) (s ∷ []) m (In-filter (λ (j : Node). ltb (serial_of n) (serial_of j)) m (matches (tree ts) (serial_of (env y)) (s ∷ [])) i).0).0 (inl (inr i)))
 
   -- and all matches of a loop that comes next
   pub loop_held : (x y : ℕ) (s : Step) (e d : BodyTree) (env : Env) → At (Rest (Then (For x y s e) d) env) → matches (held_tree core (tree ts) k) (serial_of (env y)) (s ∷ []) ≡ matches (tree ts) (serial_of (env y)) (s ∷ [])
@@ -69,27 +69,27 @@ module _ (core : BodyTree) (good : Good core) (ts : List Token) (k : ℕ) (top :
   fact f st = facts_at [] top f (facts (tree ts) (grown ts) core good (root_in ts) (so_far core (tree ts) k) (top ++ f ∷ below) st)
 
   -- the present match of a loop is a match of its step from its parent's node, and of the variable's path
-  pub turn_bound : (x y : ℕ) (s : Step) (e : BodyTree) (env : Env) (n : Node) → At (Round x y s e env n)
+  pub turn_bound : (x y : ℕ) (s : Step) (e : BodyTree) (env : Env) (n : Node) → At (LoopRound x y s e env n)
       → In n (matches (tree ts) (serial_of (env y)) (s ∷ [])) × (hits 0 ((reading core).paths y) (env y) ≡ true) × (hits 0 ((reading core).paths x) n ≡ true)
-  turn_bound x y s e env n st = let t : Turn (tree ts) (grown ts) core good top x y s e env n below = fact (Round x y s e env n) st in (t.match, t.parent.hit, hit_on (tree ts) (grown ts) core good x y s t.straight t.var (env y) n t.parent.inside t.parent.hit t.match)
+  turn_bound x y s e env n st = let t : Turn (tree ts) (grown ts) core good top x y s e env n below = fact (LoopRound x y s e env n) st in (t.match, t.parent.hit, hit_on (tree ts) (grown ts) core good x y s t.straight t.var (env y) n t.parent.inside t.parent.hit t.match)
 
   -- the parent of a loop's variable is bound below to the node at which the loop runs
-  pub parent_bound : (x y : ℕ) (s : Step) (e : BodyTree) (env : Env) (n : Node) → At (Round x y s e env n) → Bound_in y (env y) below
-  parent_bound x y s e env n st = let t : Turn (tree ts) (grown ts) core good top x y s e env n below = fact (Round x y s e env n) st in t.bound
+  pub parent_bound : (x y : ℕ) (s : Step) (e : BodyTree) (env : Env) (n : Node) → At (LoopRound x y s e env n) → Bound_in y (env y) below
+  parent_bound x y s e env n st = let t : Turn (tree ts) (grown ts) core good top x y s e env n below = fact (LoopRound x y s e env n) st in t.bound
 
   -- a copy of the held nodes is one of the tree
-  pub copy_held : (x : ℕ) (env : Env) (made : ℕ) → At (Part x env made) → (most : ℕ) → copy most (held_tree core (tree ts) k) (env x) ≡ copy most (tree ts) (env x)
+  pub copy_held : (x : ℕ) (env : Env) (made : ℕ) → At (CopyPart x env made) → (most : ℕ) → copy most (held_tree core (tree ts) k) (env x) ≡ copy most (tree ts) (env x)
   copy_held x env made st most =
-      let f : In (whole_row x) (roles_of core) × Here (tree ts) (grown ts) core good x (env x) below = fact (Part x env made) st in
-      copy_kept (tree ts) (grown ts) (is_held (reading core) (tree ts) (so_far core (tree ts) k)) most (env x) f.1.0.inside (λ m i h. frame_held (Part x env made) st m i h)
+      let f : In (whole_row x) (roles_of core) × Here (tree ts) (grown ts) core good x (env x) below = fact (CopyPart x env made) st in
+      copy_kept (tree ts) (grown ts) (is_held (reading core) (tree ts) (so_far core (tree ts) k)) most (env x) f.1.0.inside (λ m i h. frame_held (CopyPart x env made) st m i h)
 
 -- At each point, a statement waits only where its base is bound, to the node at which it will be carried out.
-pub waits_only : (core : BodyTree) (good : Good core) (ts : List Token) (k : ℕ) (fs : List Frame) → IsPoint (tree ts) (reading core).body env0 (so_far core (tree ts) k) fs
+pub waits_only : (core : BodyTree) (good : Good core) (ts : List TreeToken) (k : ℕ) (fs : List Frame) → IsPoint (tree ts) (reading core).body env0 (so_far core (tree ts) k) fs
     → (o : OffTree) (v : Env) → Waits o v fs → In o (reading core).offs × Bound_in o.base (v o.base) fs
 waits_only core good ts k fs st o v h = waits_bound (tree ts) (grown ts) core good [] fs o v (facts (tree ts) (grown ts) core good (root_in ts) (so_far core (tree ts) k) fs st) h
 
 -- While it waits, the base's node isn't signed for it.
-pub waits_unsigned_at : (core : BodyTree) (good : Good core) (ts : List Token) (k : ℕ) (fs : List Frame) → IsPoint (tree ts) (reading core).body env0 (so_far core (tree ts) k) fs
+pub waits_unsigned_at : (core : BodyTree) (good : Good core) (ts : List TreeToken) (k : ℕ) (fs : List Frame) → IsPoint (tree ts) (reading core).body env0 (so_far core (tree ts) k) fs
     → (o : OffTree) (v : Env) → Waits o v fs → In (Offed o (serial_of (v o.base))) (so_far core (tree ts) k) → ⊥
 waits_unsigned_at core good ts k fs st o v h i =
     let y = plan_way core good o (waits_only core good ts k fs st o v h).0 in
@@ -101,9 +101,9 @@ uses_bound P w core good (Write s) env fs f x u = absurd u
 uses_bound P w core good (Copy y) env fs f x u = subst (λ (z : ℕ). Bound_in z (env z) fs) u f.1.1
 uses_bound P w core good (For z y s d) env fs f x u = let l : Loop P w core good z y s d env fs = f in subst (λ (z : ℕ). Bound_in z (env z) fs) u l.bound
 uses_bound P w core good (If c a b) env fs f x u = subst (λ (z : ℕ). Bound_in z (env z) fs) u.2 (f u.0 u.1).1.1
-uses_bound P w core good (Off o) env fs f x u = subst (λ (z : ℕ). Bound_in z (env z) fs) u f
+uses_bound P w core good (SignOff o) env fs f x u = subst (λ (z : ℕ). Bound_in z (env z) fs) u f
 
-module _ (core : BodyTree) (good : Good core) (ts : List Token) (k : ℕ) (top below : List Frame) where
+module _ (core : BodyTree) (good : Good core) (ts : List TreeToken) (k : ℕ) (top below : List Frame) where
   abbrev all_facts : (f : Frame) → At core good ts k top below f → Facts (tree ts) (grown ts) core good [] (top ++ f ∷ below)
   all_facts f st = facts (tree ts) (grown ts) core good (root_in ts) (so_far core (tree ts) k) (top ++ f ∷ below) st
 
@@ -118,5 +118,5 @@ module _ (core : BodyTree) (good : Good core) (ts : List Token) (k : ℕ) (top b
   pub item_bound : (i : ItemTree) (d : BodyTree) (env : Env) → At core good ts k top below (Rest (Then i d) env) → (x : ℕ) → Uses i x → Bound_in x (env x) below
   item_bound i d env st x u = uses_bound (tree ts) (grown ts) core good i env (Rest (Then i d) env ∷ below) (fact core good ts k top below (Rest (Then i d) env) st).0 x u
 
-  pub off_unsigned : (o : OffTree) (d : BodyTree) (env : Env) → At core good ts k top below (Rest (Then (Off o) d) env) → In (Offed o (serial_of (env o.base))) (so_far core (tree ts) k) → ⊥
-  off_unsigned o d env st i = waits_unsigned_at core good ts k (top ++ Rest (Then (Off o) d) env ∷ below) st o env (Waits-right o env top (Rest (Then (Off o) d) env ∷ below) (inl (inl refl, refl))) i
+  pub off_unsigned : (o : OffTree) (d : BodyTree) (env : Env) → At core good ts k top below (Rest (Then (SignOff o) d) env) → In (Offed o (serial_of (env o.base))) (so_far core (tree ts) k) → ⊥
+  off_unsigned o d env st i = waits_unsigned_at core good ts k (top ++ Rest (Then (SignOff o) d) env ∷ below) st o env (Waits-right o env top (Rest (Then (SignOff o) d) env ∷ below) (inl (inl refl, refl))) i

@@ -6,7 +6,7 @@ pub use Rattle.gcx_model.specs.Points.{Bound_in}
 use Rattle.gcx_model.specs.Tree.{Node, Root, serial_of, above, Tree}
 use Rattle.gcx_base.specs.declared.steps.Step.{Step}
 use Rattle.gcx_model.specs.Paths.{reach, hits, matches, first}
-use Rattle.gcx_model.specs.Core.{ItemTree, Write, Copy, For, If, Off, BodyTree, Nil, Then, OffTree, RoleKind, Own, First, Whole, RoleRowTree}
+use Rattle.gcx_model.specs.Core.{ItemTree, Write, Copy, For, If, SignOff, BodyTree, Nil, Then, OffTree, RoleTarget, Own, First, Whole, RoleRowTree}
 use Rattle.gcx_model.specs.Truth.{Env, bind_var}
 use Rattle.gcx_model.specs.Run.{env0, Action}
 use Rattle.gcx_model.specs.Held.{is_node, gives}
@@ -18,7 +18,7 @@ use Rattle.gcx_model.specs.Cores.{BodyIn, Good}
 use Rattle.tree_laws.proofs.Lists.{In, Once, In-left, In-right, any_in, any_from}
 use Rattle.tree_laws.proofs.Matches.{Grown, Matches-in, Matches-from}
 use Rattle.tree_laws.proofs.Chains.{above_in, above_trans, hits_above}
-use Rattle.placed_laws.proofs.PointForms.{Frame, Rest, Round, Part, IsPoint, Begins, Past, InLoop, InYes, InNo, InCopy}
+use Rattle.placed_laws.proofs.PointForms.{Frame, Rest, LoopRound, CopyPart, IsPoint, Begins, PastItem, InLoop, InYes, InNo, InCopy}
 use Rattle.gcx_model.specs.Members.{count}
 use Rattle.placed_laws.proofs.CorePlans.{In-count, Fits, Once-left, Once-right, good_once, good_not_zero, good_fits, good_zero, cond_rows_in, end_in}
 use Rattle.placed_laws.proofs.Waits.{Has, Waits, Waits-over, Waits-right}
@@ -35,7 +35,7 @@ module _ (P : Tree) (w : Grown P) where
       (and_from _ _ a.0 (hits-append (serial_of r.0) p q j m i k a.1 g))
 
   -- what a node gives, one from which a path leads to it gives by the longer path
-  pub gives_behind : (b : ℕ) (p rel tail : List Step) (k : RoleKind) (m n : Node) → In m P.nodes → In n P.nodes → hits b p m ≡ true → gives P (serial_of m) rel tail k n ≡ true → gives P b (p ++ rel) tail k n ≡ true
+  pub gives_behind : (b : ℕ) (p rel tail : List Step) (k : RoleTarget) (m n : Node) → In m P.nodes → In n P.nodes → hits b p m ≡ true → gives P (serial_of m) rel tail k n ≡ true → gives P b (p ++ rel) tail k n ≡ true
   gives_behind b p rel tail Own m n i j h g = hits-append b p rel m n i j h g
   gives_behind b p rel tail First m n i j h g =
       let f : Node → Bool = λ a. is_node (serial_of n) (first P (serial_of a) tail) in
@@ -82,7 +82,7 @@ Last l (x ∷ y ∷ ys) = Last l (y ∷ ys)
 
 pub Has-offs : (o : OffTree) (os : List OffTree) → In o os → Has o (offs_body os)
 Has-offs o [] i = absurd i
-Has-offs o (q ∷ os) (inl e) = inl (ap Off e)
+Has-offs o (q ∷ os) (inl e) = inl (ap SignOff e)
 Has-offs o (q ∷ os) (inr i) = inr (Has-offs o os i)
 
 pub Has-end : (o : OffTree) (d : BodyTree) (os : List OffTree) → In o os → Has o (add_offs d os)
@@ -96,8 +96,8 @@ Last-in l (x ∷ y ∷ ys) h = inr (Last-in l (y ∷ ys) h)
 
 bound_over : (x : ℕ) (n : Node) (f : Frame) (fs : List Frame) → Bound_in x n fs → Bound_in x n (f ∷ fs)
 bound_over x n (Rest d env) fs h = h
-bound_over x n (Round z y s e env m) fs h = inr h
-bound_over x n (Part z env k) fs h = h
+bound_over x n (LoopRound z y s e env m) fs h = inr h
+bound_over x n (CopyPart z env k) fs h = h
 
 module _ (P : Tree) (w : Grown P) (core : BodyTree) (good : Good core) where
   abbrev pub F : ℕ → Var
@@ -216,7 +216,7 @@ module _ (P : Tree) (w : Grown P) (core : BodyTree) (good : Good core) where
   Fact_item (Copy x) env fs = In (whole_row x) (roles_of core) × Here x (env x) fs
   Fact_item (For x y s d) env fs = Loop x y s d env fs
   Fact_item (If c a b) env fs = (r : RoleRowTree) → In r (cond_rows c) → In r (roles_of core) × Here r.var (env r.var) fs
-  Fact_item (Off o) env fs = Bound_in o.base (env o.base) fs
+  Fact_item (SignOff o) env fs = Bound_in o.base (env o.base) fs
 
   abbrev pub Fact_rest : BodyTree → Env → List Frame → Type 0
   Fact_rest Nil env fs = Unit {0}
@@ -228,8 +228,8 @@ module _ (P : Tree) (w : Grown P) (core : BodyTree) (good : Good core) where
 
   abbrev pub Fact : List Frame → Frame → List Frame → Type 0
   Fact top (Rest d env) below = Fact_rest d env (Rest d env ∷ below) × Bases_of d env below
-  Fact top (Round x y s e env n) below = Turn top x y s e env n below
-  Fact top (Part x env k) below = In (whole_row x) (roles_of core) × Here x (env x) below
+  Fact top (LoopRound x y s e env n) below = Turn top x y s e env n below
+  Fact top (CopyPart x env k) below = In (whole_row x) (roles_of core) × Here x (env x) below
 
   abbrev pub Facts : List Frame → List Frame → Type 0
   Facts top [] = Unit {0}
@@ -239,8 +239,8 @@ module _ (P : Tree) (w : Grown P) (core : BodyTree) (good : Good core) where
   own_offs : (os : List OffTree) (env : Env) (before : List Action) (fs : List Frame) (o : OffTree) → IsPoint P (offs_body os) env before fs → Last o os → Waits o env fs ⊎ (fs ≡ Rest Nil env ∷ [])
   own_offs [] env before fs o st l = absurd l
   own_offs (q ∷ os) env before fs o Begins l = inl (inl (Has-offs o (q ∷ os) (Last-in o (q ∷ os) l), refl))
-  own_offs (q ∷ []) env before fs o (Past e Begins) l = inr refl
-  own_offs (q ∷ q' ∷ os) env before fs o (Past {before = before'} e st) l = own_offs (q' ∷ os) env before' fs o st l
+  own_offs (q ∷ []) env before fs o (PastItem e Begins) l = inr refl
+  own_offs (q ∷ q' ∷ os) env before fs o (PastItem {before = before'} e st) l = own_offs (q' ∷ os) env before' fs o st l
 
   in_rest : (d : BodyTree) (os : List OffTree) (env : Env) (o : OffTree) (fs : List Frame) → Last o os → Waits o env (fs ++ Rest (add_offs d os) env ∷ []) ⊎ (fs ++ Rest (add_offs d os) env ∷ [] ≡ Rest Nil env ∷ [])
   in_rest d os env o fs l = inl (Waits-right o env fs (Rest (add_offs d os) env ∷ []) (inl (Has-end o d os (Last-in o os l), refl)))
@@ -251,20 +251,20 @@ module _ (P : Tree) (w : Grown P) (core : BodyTree) (good : Good core) where
   pub own_waits : (d : BodyTree) (os : List OffTree) (env : Env) (before : List Action) (fs : List Frame) (o : OffTree) → IsPoint P (add_offs (place ends d) os) env before fs → Last o os → Waits o env fs ⊎ (fs ≡ Rest Nil env ∷ [])
   own_waits Nil os env before fs o st l = own_offs os env before fs o st l
   own_waits (Then (Write s) d) os env before fs o Begins l = begun_waits (Write s) (place ends d) os env o l
-  own_waits (Then (Write s) d) os env before fs o (Past {before = before'} e st) l = own_waits d os env before' fs o st l
+  own_waits (Then (Write s) d) os env before fs o (PastItem {before = before'} e st) l = own_waits d os env before' fs o st l
   own_waits (Then (Copy x) d) os env before fs o Begins l = begun_waits (Copy x) (place ends d) os env o l
-  own_waits (Then (Copy x) d) os env before fs o (Past {before = before'} e st) l = own_waits d os env before' fs o st l
-  own_waits (Then (Copy x) d) os env before fs o (InCopy before' rest' e) l = in_rest (place ends d) os env o (Part x env (length before) ∷ []) l
+  own_waits (Then (Copy x) d) os env before fs o (PastItem {before = before'} e st) l = own_waits d os env before' fs o st l
+  own_waits (Then (Copy x) d) os env before fs o (InCopy before' rest' e) l = in_rest (place ends d) os env o (CopyPart x env (length before) ∷ []) l
   own_waits (Then (For x y s b) d) os env before fs o Begins l = begun_waits (For x y s (add_offs (place ends b) (ends x))) (place ends d) os env o l
-  own_waits (Then (For x y s b) d) os env before fs o (Past {before = before'} e st) l = own_waits d os env before' fs o st l
+  own_waits (Then (For x y s b) d) os env before fs o (PastItem {before = before'} e st) l = own_waits d os env before' fs o st l
   own_waits (Then (For x y s b) d) os env before fs o (InLoop {fs = fs'} pre n post m dn st) l =
-      inl (Waits-right o env fs' (Round x y s (add_offs (place ends b) (ends x)) env n ∷ Rest (add_offs (place ends d) os) env ∷ []) (inl (Has-end o (place ends d) os (Last-in o os l), refl)))
+      inl (Waits-right o env fs' (LoopRound x y s (add_offs (place ends b) (ends x)) env n ∷ Rest (add_offs (place ends d) os) env ∷ []) (inl (Has-end o (place ends d) os (Last-in o os l), refl)))
   own_waits (Then (If c a b) d) os env before fs o Begins l = begun_waits (If c a b) (place ends d) os env o l
-  own_waits (Then (If c a b) d) os env before fs o (Past {before = before'} e st) l = own_waits d os env before' fs o st l
+  own_waits (Then (If c a b) d) os env before fs o (PastItem {before = before'} e st) l = own_waits d os env before' fs o st l
   own_waits (Then (If c a b) d) os env before fs o (InYes {fs = fs'} e st) l = in_rest (place ends d) os env o fs' l
   own_waits (Then (If c a b) d) os env before fs o (InNo {fs = fs'} e st) l = in_rest (place ends d) os env o fs' l
-  own_waits (Then (Off t) d) os env before fs o Begins l = begun_waits (Off t) (place ends d) os env o l
-  own_waits (Then (Off t) d) os env before fs o (Past {before = before'} e st) l = own_waits d os env before' fs o st l
+  own_waits (Then (SignOff t) d) os env before fs o Begins l = begun_waits (SignOff t) (place ends d) os env o l
+  own_waits (Then (SignOff t) d) os env before fs o (PastItem {before = before'} e st) l = own_waits d os env before' fs o st l
 
   known_rest : (i : ItemTree) (d : BodyTree) → Known_rows (Then i d) → Known_rows d
   known_rest i d k r j = k r (In-right r (item_rows i) (rows d) j)
@@ -274,7 +274,7 @@ module _ (P : Tree) (w : Grown P) (core : BodyTree) (good : Good core) where
   begun (Then (Write s) d) L env gs q k inv = tt
   begun (Then (Copy x) d) L env gs q k inv = (k (whole_row x) (inl refl), inv x q.0)
   begun (Then (For x y s e) d) L env gs q k inv = absurd (false≢true q.0.0)
-  begun (Then (Off o) d) L env gs q k inv = absurd q.0
+  begun (Then (SignOff o) d) L env gs q k inv = absurd q.0
   begun (Then (If c a e) d) L env gs q k inv = λ r i. (k r (In-left r (cond_rows c ++ (rows a ++ rows e)) (rows d) (In-left r (cond_rows c) (rows a ++ rows e) i)), inv r.var (cond_rows_in L c q.0.0 r i))
 
   no_statement : (d : BodyTree) (b : Bool) (L : List ℕ) (o : OffTree) → BodyIn b L d → Has o d → ⊥
@@ -287,7 +287,7 @@ module _ (P : Tree) (w : Grown P) (core : BodyTree) (good : Good core) where
   no_statement (Then (For x y s e) d) b L o q (inr h) = no_statement d b L o q.1 h
   no_statement (Then (If c a e) d) b L o q (inl f) = cc
   no_statement (Then (If c a e) d) b L o q (inr h) = no_statement d b L o q.1 h
-  no_statement (Then (Off t) d) b L o q h = absurd q.0
+  no_statement (Then (SignOff t) d) b L o q h = absurd q.0
 
   branch_fact : (d : BodyTree) (L : List ℕ) (env : Env) (gs : List Frame) → BodyIn false L d → Known_rows d → ((x : ℕ) → In x L → Here x (env x) (Rest d env ∷ gs)) → Fact_rest d env (Rest d env ∷ gs) × Bases_of d env gs
   branch_fact d L env gs q k inv = (begun d L env (Rest d env ∷ gs) q k inv, λ o h. absurd (no_statement d false L o q h))
@@ -299,7 +299,7 @@ module _ (P : Tree) (w : Grown P) (core : BodyTree) (good : Good core) where
   -- in a branch of an If
   branch : (d : BodyTree) (L : List ℕ) (env : Env) (before : List Action) (fs gs : List Frame) → IsPoint P d env before fs → BodyIn false L d → Known_rows d → ((x : ℕ) → In x L → Here x (env x) gs) → Facts fs gs → Facts [] (fs ++ gs)
   branch d L env before fs gs Begins q k inv h = (branch_fact d L env gs q k (λ x i. here_over x (env x) (Rest d env) gs (inv x i)), h)
-  branch (Then i d) L env before fs gs (Past {before = before'} e st) q k inv h = branch d L env before' fs gs st q.1 (known_rest i d k) inv h
+  branch (Then i d) L env before fs gs (PastItem {before = before'} e st) q k inv h = branch d L env before' fs gs st q.1 (known_rest i d k) inv h
   branch (Then (If c a b) d) L env before fs gs (InYes {fs = fs'} e st) q k inv h =
       let up : (x : ℕ) → In x L → Here x (env x) (Rest d env ∷ gs) = λ x i. here_over x (env x) (Rest d env) gs (inv x i) in
       under fs' (Rest d env ∷ []) gs
@@ -319,7 +319,7 @@ module _ (P : Tree) (w : Grown P) (core : BodyTree) (good : Good core) where
   in_offs o [] h = h
   in_offs o (q ∷ os) (inl e) = inl (same q o e)
     where
-      same : (a b : OffTree) → Off a ≡ Off b → a ≡ b
+      same : (a b : OffTree) → SignOff a ≡ SignOff b → a ≡ b
       same a b e = cc
   in_offs o (q ∷ os) (inr h) = inr (in_offs o os h)
 
@@ -333,7 +333,7 @@ module _ (P : Tree) (w : Grown P) (core : BodyTree) (good : Good core) where
   in_placed o (Then (For x y s e) d) os b L q (inr h) = in_placed o d os b L q.1 h
   in_placed o (Then (If c a e) d) os b L q (inl f) = cc
   in_placed o (Then (If c a e) d) os b L q (inr h) = in_placed o d os b L q.1 h
-  in_placed o (Then (Off t) d) os b L q h = absurd q.0
+  in_placed o (Then (SignOff t) d) os b L q h = absurd q.0
 
   -- the base of each statement at the end of a body is bound below
   abbrev Bases : List OffTree → Env → List Frame → Type 0
@@ -346,7 +346,7 @@ module _ (P : Tree) (w : Grown P) (core : BodyTree) (good : Good core) where
   offs_facts : (os : List OffTree) (env : Env) (before : List Action) (fs gs : List Frame) → IsPoint P (offs_body os) env before fs → Bases os env gs → Facts fs gs → Facts [] (fs ++ gs)
   offs_facts [] env before fs gs Begins ob h = ((tt, λ o i. absurd i), h)
   offs_facts (o ∷ os) env before fs gs Begins ob h = (((ob o (inl refl)).1, λ t i. ob t (in_offs t (o ∷ os) i)), h)
-  offs_facts (o ∷ os) env before fs gs (Past {before = before'} e st) ob h = offs_facts os env before' fs gs st (λ t i. ob t (inr i)) h
+  offs_facts (o ∷ os) env before fs gs (PastItem {before = before'} e st) ob h = offs_facts os env before' fs gs st (λ t i. ob t (inr i)) h
 
   placed_begun : (d : BodyTree) (u : ℕ) (os : List OffTree) (b : Bool) (L : List ℕ) (env : Env) (gs : List Frame) → Lower L d → Ascends (vars d) → BodyIn b L d → Fits F u d → Known_rows d → Bases os env gs → ((x : ℕ) → In x L → Here x (env x) gs) → Fact_rest (add_offs (place ends d) os) env gs
   placed_begun Nil u os b L env gs lo asc q f k ob inv = offs_begun os env gs ob
@@ -361,7 +361,7 @@ module _ (P : Tree) (w : Grown P) (core : BodyTree) (good : Good core) where
     body = λ t i. Has-end t (place ends e) (ends x) i;
     scope = record { body = e; placed = refl; known = λ r i. k r (inr (In-left r (rows e) (rows d) i)); outer = L; uses = subst (λ (z : Bool). BodyIn z (x ∷ L) e) q.0.0 q.0.2; here = inv; low = λ z i. lo z i x (inl refl); high = (Ascends-left (x ∷ vars e) (vars d) asc).0 };
   }
-  placed_begun (Then (Off o) d) u os b L env gs lo asc q f k ob inv = absurd q.0
+  placed_begun (Then (SignOff o) d) u os b L env gs lo asc q f k ob inv = absurd q.0
   placed_begun (Then (If c a e) d) u os b L env gs lo asc q f k ob inv = λ r i. (k r (In-left r (cond_rows c ++ (rows a ++ rows e)) (rows d) (In-left r (cond_rows c) (rows a ++ rows e) i)), inv r.var (cond_rows_in L c q.0.0 r i))
 
   placed_fact : (d : BodyTree) (u : ℕ) (os : List OffTree) (b : Bool) (L : List ℕ) (env : Env) (gs : List Frame) → Lower L d → Ascends (vars d) → BodyIn b L d → Fits F u d → Known_rows d → Bases os env gs → ((x : ℕ) → In x L → Here x (env x) (Rest (add_offs (place ends d) os) env ∷ gs))
@@ -374,27 +374,27 @@ module _ (P : Tree) (w : Grown P) (core : BodyTree) (good : Good core) where
 
   inner : (x y : ℕ) (s : Step) (c : Bool) (E d : BodyTree) (L : List ℕ) (os : List OffTree) (env : Env) (n : Node) (gs : List Frame)
       → F x ≡ child_var c x s (F y) → In y L → (In x L → ⊥) → In n (matches P (serial_of (env y)) (s ∷ [])) → Open L os env gs
-      → Open (x ∷ L) (ends x) (bind_var env x n) (Round x y s E env n ∷ Rest (add_offs d os) env ∷ gs)
+      → Open (x ∷ L) (ends x) (bind_var env x n) (LoopRound x y s E env n ∷ Rest (add_offs d os) env ∷ gs)
   inner x y s c E d L os env n gs e iy nx m inv z i d' = go i
     where
       here : bind_var env x n x ≡ n
       here = rw (eq-eqb x x refl) refl
 
-      own : Here x (bind_var env x n x) (Rest (add_offs d' (ends x)) (bind_var env x n) ∷ Round x y s E env n ∷ Rest (add_offs d os) env ∷ gs)
-      own = subst (λ (a : Node). Here x a (Rest (add_offs d' (ends x)) (bind_var env x n) ∷ Round x y s E env n ∷ Rest (add_offs d os) env ∷ gs)) (sym here)
+      own : Here x (bind_var env x n x) (Rest (add_offs d' (ends x)) (bind_var env x n) ∷ LoopRound x y s E env n ∷ Rest (add_offs d os) env ∷ gs)
+      own = subst (λ (a : Node). Here x a (Rest (add_offs d' (ends x)) (bind_var env x n) ∷ LoopRound x y s E env n ∷ Rest (add_offs d os) env ∷ gs)) (sym here)
           ((
-            ready_child x y s c e (env y) n (Rest (add_offs d os) env ∷ gs) (Rest (add_offs d' (ends x)) (bind_var env x n) ∷ Round x y s E env n ∷ Rest (add_offs d os) env ∷ gs) (bind_var env x n) here (inv y iy d).0 m
+            ready_child x y s c e (env y) n (Rest (add_offs d os) env ∷ gs) (Rest (add_offs d' (ends x)) (bind_var env x n) ∷ LoopRound x y s E env n ∷ Rest (add_offs d os) env ∷ gs) (bind_var env x n) here (inv y iy d).0 m
                 (λ o j. inl (Has-end o d' (ends x) j, refl)) (λ o u h. inr h),
             inl (refl, refl),
           ))
 
-      go : In z (x ∷ L) → Here z (bind_var env x n z) (Rest (add_offs d' (ends x)) (bind_var env x n) ∷ Round x y s E env n ∷ Rest (add_offs d os) env ∷ gs)
-      go (inl f) = subst (λ (a : ℕ). Here a (bind_var env x n a) (Rest (add_offs d' (ends x)) (bind_var env x n) ∷ Round x y s E env n ∷ Rest (add_offs d os) env ∷ gs)) f own
+      go : In z (x ∷ L) → Here z (bind_var env x n z) (Rest (add_offs d' (ends x)) (bind_var env x n) ∷ LoopRound x y s E env n ∷ Rest (add_offs d os) env ∷ gs)
+      go (inl f) = subst (λ (a : ℕ). Here a (bind_var env x n a) (Rest (add_offs d' (ends x)) (bind_var env x n) ∷ LoopRound x y s E env n ∷ Rest (add_offs d os) env ∷ gs)) f own
       go (inr j) =
           let same : env z ≡ bind_var env x n z = rw (ne_eqb z x (λ f. nx (subst (λ (a : ℕ). In a L) f j))) refl in
-          subst (λ (a : Node). Here z a (Rest (add_offs d' (ends x)) (bind_var env x n) ∷ Round x y s E env n ∷ Rest (add_offs d os) env ∷ gs)) same
-          (here_over z (env z) (Rest (add_offs d' (ends x)) (bind_var env x n)) (Round x y s E env n ∷ Rest (add_offs d os) env ∷ gs)
-          (here_over z (env z) (Round x y s E env n) (Rest (add_offs d os) env ∷ gs) (inv z j d)))
+          subst (λ (a : Node). Here z a (Rest (add_offs d' (ends x)) (bind_var env x n) ∷ LoopRound x y s E env n ∷ Rest (add_offs d os) env ∷ gs)) same
+          (here_over z (env z) (Rest (add_offs d' (ends x)) (bind_var env x n)) (LoopRound x y s E env n ∷ Rest (add_offs d os) env ∷ gs)
+          (here_over z (env z) (LoopRound x y s E env n) (Rest (add_offs d os) env ∷ gs) (inv z j d)))
 
   at : (d : BodyTree) (os : List OffTree) (L : List ℕ) (env : Env) (gs : List Frame) → Open L os env gs → (x : ℕ) → In x L → Here x (env x) (Rest (add_offs d os) env ∷ gs)
   at d os L env gs inv x i = inv x i d
@@ -403,14 +403,14 @@ module _ (P : Tree) (w : Grown P) (core : BodyTree) (good : Good core) where
       → BodyIn true L d → Fits F u d → Known_rows d → Bases os env gs → Once (vars d) → ((z : ℕ) → In z L → In z (vars d) → ⊥) → Ascends (vars d) → Lower L d → Open L os env gs → Facts fs gs → Facts [] (fs ++ gs)
   main Nil u L os env before fs gs st q f k ob o a asc lo inv h = offs_facts os env before fs gs st ob h
   main (Then (Write s) d) u L os env before fs gs Begins q f k ob o a asc lo inv h = (placed_fact (Then (Write s) d) u os true L env gs lo asc q f k ob (at (Then (Write s) (place ends d)) os L env gs inv), h)
-  main (Then (Write s) d) u L os env before fs gs (Past {before = before'} e st) q f k ob o a asc lo inv h = main d u L os env before' fs gs st q.1 f.1 k ob o a asc lo inv h
-  main (Then (Off t) d) u L os env before fs gs st q f k ob o a asc lo inv h = absurd q.0
+  main (Then (Write s) d) u L os env before fs gs (PastItem {before = before'} e st) q f k ob o a asc lo inv h = main d u L os env before' fs gs st q.1 f.1 k ob o a asc lo inv h
+  main (Then (SignOff t) d) u L os env before fs gs st q f k ob o a asc lo inv h = absurd q.0
   main (Then (Copy x) d) u L os env before fs gs Begins q f k ob o a asc lo inv h = (placed_fact (Then (Copy x) d) u os true L env gs lo asc q f k ob (at (Then (Copy x) (place ends d)) os L env gs inv), h)
-  main (Then (Copy x) d) u L os env before fs gs (Past {before = before'} e st) q f k ob o a asc lo inv h = main d u L os env before' fs gs st q.1 f.1 (known_rest (Copy x) d k) ob o a asc lo inv h
+  main (Then (Copy x) d) u L os env before fs gs (PastItem {before = before'} e st) q f k ob o a asc lo inv h = main d u L os env before' fs gs st q.1 f.1 (known_rest (Copy x) d k) ob o a asc lo inv h
   main (Then (Copy x) d) u L os env before fs gs (InCopy before' rest' e) q f k ob o a asc lo inv h =
       ((k (whole_row x) (inl refl), inv x q.0 (place ends d)), (placed_fact d u os true L env gs lo asc q.1 f.1 (known_rest (Copy x) d k) ob (at (place ends d) os L env gs inv), h))
   main (Then (If c y n) d) u L os env before fs gs Begins q f k ob o a asc lo inv h = (placed_fact (Then (If c y n) d) u os true L env gs lo asc q f k ob (at (Then (If c y n) (place ends d)) os L env gs inv), h)
-  main (Then (If c y n) d) u L os env before fs gs (Past {before = before'} e st) q f k ob o a asc lo inv h =
+  main (Then (If c y n) d) u L os env before fs gs (PastItem {before = before'} e st) q f k ob o a asc lo inv h =
       main d u L os env before' fs gs st q.1 f.1 (known_rest (If c y n) d k) ob (Once-right (vars y ++ vars n) (vars d) o) (λ z i j. a z i (In-right z (vars y ++ vars n) (vars d) j)) (Ascends-right (vars y ++ vars n) (vars d) asc) (λ z i v j. lo z i v (In-right v (vars y ++ vars n) (vars d) j)) inv h
   main (Then (If c y n) d) u L os env before fs gs (InYes {fs = fs'} e st) q f k ob o a asc lo inv h =
       let up = at (place ends d) os L env gs inv in
@@ -425,7 +425,7 @@ module _ (P : Tree) (w : Grown P) (core : BodyTree) (good : Good core) where
       (branch n L env before fs' (Rest rest env ∷ gs) st q.0.2 (λ r i. k r (In-left r (cond_rows c ++ (rows y ++ rows n)) (rows d) (In-right r (cond_rows c) (rows y ++ rows n) (In-right r (rows y) (rows n) i)))) up
       (placed_fact d u os true L env gs (λ z i v j. lo z i v (In-right v (vars y ++ vars n) (vars d) j)) (Ascends-right (vars y ++ vars n) (vars d) asc) q.1 f.1 (known_rest (If c y n) d k) ob up, h))
   main (Then (For x y s e) d) u L os env before fs gs Begins q f k ob o a asc lo inv h = (placed_fact (Then (For x y s e) d) u os true L env gs lo asc q f k ob (at (Then (For x y s (add_offs (place ends e) (ends x))) (place ends d)) os L env gs inv), h)
-  main (Then (For x y s e) d) u L os env before fs gs (Past {before = before'} dn st) q f k ob o a asc lo inv h =
+  main (Then (For x y s e) d) u L os env before fs gs (PastItem {before = before'} dn st) q f k ob o a asc lo inv h =
       main d u L os env before' fs gs st q.1 f.1 (known_rest (For x y s e) d k) ob (Once-right (x ∷ vars e) (vars d) o) (λ z i j. a z i (inr (In-right z (vars e) (vars d) j))) (Ascends-right (x ∷ vars e) (vars d) asc) (λ z i v j. lo z i v (inr (In-right v (vars e) (vars d) j))) inv h
   main (Then (For x y s e) d) u L os env before fs gs (InLoop {before = before'} {fs = fs'} pre n post m dn st) q f k ob o a asc lo inv h =
       let rest : BodyTree = add_offs (place ends d) os in
@@ -444,8 +444,8 @@ module _ (P : Tree) (w : Grown P) (core : BodyTree) (good : Good core) where
         last = λ t l. own_waits e (ends x) (bind_var env x n) before' fs' t st l;
         scope = record { body = e; placed = refl; known = λ r i. k r (inr (In-left r (rows e) (rows d) i)); outer = L; uses = q.0.2; here = λ z i. inv z i (place ends d); low = λ z i. lo z i x (inl refl); high = (Ascends-left (x ∷ vars e) (vars d) asc).0 };
       } in
-      under fs' (Round x y s E env n ∷ Rest rest env ∷ []) gs
-      (main e x (x ∷ L) (ends x) (bind_var env x n) before' fs' (Round x y s E env n ∷ Rest rest env ∷ gs) st q.0.2 f.0.1
+      under fs' (LoopRound x y s E env n ∷ Rest rest env ∷ []) gs
+      (main e x (x ∷ L) (ends x) (bind_var env x n) before' fs' (LoopRound x y s E env n ∷ Rest rest env ∷ gs) st q.0.2 f.0.1
       (λ r i. k r (inr (In-left r (rows e) (rows d) i)))
       (λ t i. let b = end_in (offs_of core) x t i in (b.0, inl (sym b.1, sym (ap (bind_var env x n) b.1 ∙ rw (eq-eqb x x refl) refl)))) oe.1
       (λ z i j. elim i [ inl g ↦ oe.0 (subst (λ (b : ℕ). In b (vars e)) (sym g) j) | inr i' ↦ a z i' (inr (In-left z (vars e) (vars d) j)) ])
@@ -455,7 +455,7 @@ module _ (P : Tree) (w : Grown P) (core : BodyTree) (good : Good core) where
         turn,
         (
           placed_fact d u os true L env gs (λ z i v j. lo z i v (inr (In-right v (vars e) (vars d) j))) (Ascends-right (x ∷ vars e) (vars d) asc) q.1 f.1 (known_rest (For x y s e) d k) ob (at (place ends d) os L env gs inv),
-          subst (λ (z : List Frame). Facts z gs) (sym (append_assoc fs' (Round x y s E env n ∷ []) (Rest rest env ∷ []))) h,
+          subst (λ (z : List Frame). Facts z gs) (sym (append_assoc fs' (LoopRound x y s E env n ∷ []) (Rest rest env ∷ []))) h,
         ),
       ))
 
@@ -491,16 +491,16 @@ module _ (P : Tree) (w : Grown P) (core : BodyTree) (good : Good core) where
   waits_bound top [] o v f h = absurd h
   waits_bound top (Rest d env ∷ fs) o v f (inl h) = let r = f.0.1 o h.0 in (r.0, subst (λ (z : Env). Bound_in o.base (z o.base) fs) h.1 r.1)
   waits_bound top (Rest d env ∷ fs) o v f (inr h) = waits_bound (top ++ Rest d env ∷ []) fs o v f.1 h
-  waits_bound top (Round x y s e env n ∷ fs) o v f h = let r = waits_bound (top ++ Round x y s e env n ∷ []) fs o v f.1 h in (r.0, inr r.1)
-  waits_bound top (Part x env k ∷ fs) o v f h = waits_bound (top ++ Part x env k ∷ []) fs o v f.1 h
+  waits_bound top (LoopRound x y s e env n ∷ fs) o v f h = let r = waits_bound (top ++ LoopRound x y s e env n ∷ []) fs o v f.1 h in (r.0, inr r.1)
+  waits_bound top (CopyPart x env k ∷ fs) o v f h = waits_bound (top ++ CopyPart x env k ∷ []) fs o v f.1 h
 
   -- what is bound in some frames of a point is a match of its variable's path
   pub bound_hit : (root : In Root P.nodes) (at_zero : F 0 ≡ var0) (top fs : List Frame) (x : ℕ) (n : Node) → Facts top fs → Bound_in x n fs → In n P.nodes × (hits 0 (F x).path n ≡ true)
   bound_hit root at_zero top [] x n f b = subst (λ (z : Node). In z P.nodes × (hits 0 (F x).path z ≡ true)) (sym b.1) (root, subst (λ (z : ℕ). hits 0 (F z).path Root ≡ true) (sym b.0) (subst (λ (z : Var). hits 0 z.path Root ≡ true) (sym at_zero) refl))
   bound_hit root at_zero top (Rest d env ∷ fs) x n f b = bound_hit root at_zero (top ++ Rest d env ∷ []) fs x n f.1 b
-  bound_hit root at_zero top (Part z env k ∷ fs) x n f b = bound_hit root at_zero (top ++ Part z env k ∷ []) fs x n f.1 b
-  bound_hit root at_zero top (Round z y s e env m ∷ fs) x n f (inr b) = bound_hit root at_zero (top ++ Round z y s e env m ∷ []) fs x n f.1 b
-  bound_hit root at_zero top (Round z y s e env m ∷ fs) x n f (inl b) =
+  bound_hit root at_zero top (CopyPart z env k ∷ fs) x n f b = bound_hit root at_zero (top ++ CopyPart z env k ∷ []) fs x n f.1 b
+  bound_hit root at_zero top (LoopRound z y s e env m ∷ fs) x n f (inr b) = bound_hit root at_zero (top ++ LoopRound z y s e env m ∷ []) fs x n f.1 b
+  bound_hit root at_zero top (LoopRound z y s e env m ∷ fs) x n f (inl b) =
       let t : Turn top z y s e env m fs = f.0 in
       subst (λ (v : ℕ). In n P.nodes × (hits 0 (F v).path n ≡ true)) b.0 (subst (λ (v : Node). In v P.nodes × (hits 0 (F z).path v ≡ true)) b.1
       ((Matches-in P (serial_of (env y)) (s ∷ []) m t.match).0, hit_on z y s t.straight t.var (env y) m t.parent.inside t.parent.hit t.match))

@@ -4,7 +4,7 @@ use Rattle.std.specs.Prelude.{drop}
 use Rattle.std.specs.List.{filter}
 use Rattle.std.proofs.lemmas.Bool.{false≢true}
 use Rattle.std.proofs.Math.Seq.{drop-append_seam}
-use Rattle.gcx_model.specs.Tree.{Node, Tree, Token, grow}
+use Rattle.gcx_model.specs.Tree.{Node, Tree, TreeToken, grow}
 use Rattle.gcx_model.specs.Nodes.{Grown}
 use Rattle.gcx_model.specs.Core.{BodyTree}
 use Rattle.gcx_model.specs.Run.{Action}
@@ -32,7 +32,7 @@ filter_sub p q (x ∷ xs) h = go (p x) (q x) refl refl (filter_sub p q xs h)
     go false true e f i = absurd (false≢true (sym e ∙ h x f))
     go false false e f i = i
 
-feed_at : (core : BodyTree) (good : Good core) (P : Tree) → Grown P → (t : Token) (A : List Action) → held (plan_of core) (grow t P) A ≡ filter (is_held (plan_of core) (grow t P) A) (held (plan_of core) P A ++ drop (length P.nodes) (grow t P).nodes)
+feed_at : (core : BodyTree) (good : Good core) (P : Tree) → Grown P → (t : TreeToken) (A : List Action) → held (plan_of core) (grow t P) A ≡ filter (is_held (plan_of core) (grow t P) A) (held (plan_of core) P A ++ drop (length P.nodes) (grow t P).nodes)
 feed_at core good P w t A =
     let p : Reading = reading core in
     let n : drop (length P.nodes) (grow t P).nodes ≡ added t P = ap (drop (length P.nodes)) (grow_nodes t P) ∙ drop-append_seam P.nodes (added t P) in

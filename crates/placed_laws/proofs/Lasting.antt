@@ -1,7 +1,7 @@
 -- What a node was given stays, and what isn't held is never held again.
 use Rattle.std.proofs.Common.{◌≡◌, ℕ, true, false, not, ◌&&◌, List, [], ◌∷◌, refl, sym, ◌∙◌, ap, subst, inl, inr, Some, None, Option}
 use Rattle.std.proofs.lemmas.Bool.{and_parts, and_from, or_cases, or_left, or_right, true≢false, not-true, false_from_ne_true}
-use Rattle.gcx_model.specs.Tree.{Node, serial_of, within, Tree, Token, grow, grow_all, is_open_at}
+use Rattle.gcx_model.specs.Tree.{Node, serial_of, within, Tree, TreeToken, grow, grow_all, is_open_at}
 use Rattle.gcx_model.specs.Paths.{any}
 use Rattle.gcx_model.specs.Members.{In}
 use Rattle.gcx_model.specs.Nodes.{Grown}
@@ -19,7 +19,7 @@ use Rattle.tree_laws.proofs.Fed.{nodes_stay, grown, from_tokens}
 use Rattle.placed_laws.proofs.CoreStates.{taken_acted}
 use Rattle.tree_laws.proofs.Growing.{fed_all}
 
-given_all : (us : List Token) (plan : PlanTree) (P : Tree) → Grown P → (n : Node) (r : ℕ) → In n P.nodes → given plan (grow_all us P) n r ≡ given plan P n r
+given_all : (us : List TreeToken) (plan : PlanTree) (P : Tree) → Grown P → (n : Node) (r : ℕ) → In n P.nodes → given plan (grow_all us P) n r ≡ given plan P n r
 given_all [] plan P w n r i = refl
 given_all (t ∷ us) plan P w n r i = given_all us plan (grow t P) (Grown-grow t P w) n r (nodes_stay (t ∷ []) P n i) ∙ once (row_at plan.roles r)
   where
@@ -52,6 +52,6 @@ held_acted p P A B n f h = elim (or_cases (is_open_at P.at (serial_of n)) (any (
       or_right _ _ (any_from (λ (m : Node). within (serial_of n) m && old.is_live p P A m) r.0 P.nodes r.1 (and_from _ _ q.0 (live_acted p P A B r.0 p.roles p.offs f q.1))))
 ]
 
-pub held_back_all : (us : List Token) (p : Reading) (P : Tree) → Grown P → (A : List Action) (n : Node) → In n P.nodes → old.is_held p (grow_all us P) A n ≡ true → old.is_held p P A n ≡ true
+pub held_back_all : (us : List TreeToken) (p : Reading) (P : Tree) → Grown P → (A : List Action) (n : Node) → In n P.nodes → old.is_held p (grow_all us P) A n ≡ true → old.is_held p P A n ≡ true
 held_back_all [] p P w A n i h = h
 held_back_all (t ∷ us) p P w A n i h = held_back t P w p A n i (held_back_all us p (grow t P) (Grown-grow t P w) A n (nodes_stay (t ∷ []) P n i) h)

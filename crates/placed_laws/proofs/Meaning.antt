@@ -14,13 +14,13 @@ use Rattle.gcx_model.specs.declared.query.QOperand.TheVariants as operand
 use Rattle.gcx_model.specs.Query as query
 use Rattle.gcx_model.specs.Query.{ExprTree, ExprTrees, exprs_of}
 use Rattle.gcx_model.specs.Document.{tokens, tree_of}
-use Rattle.gcx_model.specs.Tree.{Node, Root, serial_of, kind_of, Tree, Token, End, opening, is_closed}
+use Rattle.gcx_model.specs.Tree.{Node, Root, serial_of, kind_of, Tree, TreeToken, End, opening, is_closed}
 use Rattle.gcx_model.specs.Paths.{matches}
 use Rattle.gcx_model.specs.Values.{compare}
 use Rattle.gcx_model.specs.Written.{start_tag, end_tag, escaped}
 use Rattle.gcx_model.specs.Answer as meaning
 use Rattle.gcx_model.specs.Answer.{child_step, children, copied_with, copied, copy_of, Scope, start_of, found, some_pair, is_any, holds, holds_all, holds_any, turns, answer_expr, answer_exprs, answer}
-use Rattle.gcx_model.specs.Core.{OperandTree, Path, Str, Num, CondTree, CondTrees, Always, Exists, Compare, Not, All, Any, no_cond, more_conds, ItemTree, Write, Copy, For, If, Off, BodyTree, Nil, Then}
+use Rattle.gcx_model.specs.Core.{OperandTree, Path, Str, Num, CondTree, CondTrees, Always, Exists, Compare, Not, AllOf, AnyOf, no_cond, more_conds, ItemTree, Write, Copy, For, If, SignOff, BodyTree, Nil, Then}
 use Rattle.gcx_model.specs.declared.truth.Truth.{Truth}
 use Rattle.gcx_model.specs.declared.truth.Truth.TheVariants.{True, False}
 use Rattle.gcx_model.specs.Truth.{Env, bind_var, node_value, settled_values, is_over, settle, negate, both, either, truth, truth_all, truth_any}
@@ -77,8 +77,8 @@ module _ (P : Tree) (L : List ℕ) (env env' : Env) (same : (z : ℕ) → In z L
         ∙ (ap (λ b. settle (some_pair (compare rel) (settled_values P env' l) (settled_values P env' r)) (b && is_over P env r)) (over_same l i.0)
         ∙ ap (λ b. settle (some_pair (compare rel) (settled_values P env' l) (settled_values P env' r)) (is_over P env' l && b)) (over_same r i.1)))
     truth_same (Not c) i = ap negate (truth_same c i)
-    truth_same (All cs) i = all_same cs i
-    truth_same (Any cs) i = any_same cs i
+    truth_same (AllOf cs) i = all_same cs i
+    truth_same (AnyOf cs) i = any_same cs i
 
     all_same : (cs : CondTrees) → conds_in L cs → truth_all cs env P ≡ truth_all cs env' P
     all_same no_cond i = refl
@@ -232,25 +232,25 @@ module _ (P : Tree) (w : Grown P) (o : Ordered P) (over : P.at ≡ None) where
 
   mutual
     truth_is : (c : query.QueryCondTree) (names : Names) (env : Env) → In_P env → env 0 ≡ Root → truth (normal_cond c names) env P ≡ Known_as (holds c (λ x. env (names x)) P)
-    truth_is query.Always names env h e = refl
-    truth_is (query.Exists path) names env h e = exists_is (start_var names path.start) path.steps env h ∙ ap (λ (n : Node). Known_as (is_any (matches P (serial_of n) path.steps))) (sym (start_is names env path.start e))
-    truth_is (query.Compare l rel r) names env h e =
+    truth_is query.QueryAlways names env h e = refl
+    truth_is (query.QueryExists path) names env h e = exists_is (start_var names path.start) path.steps env h ∙ ap (λ (n : Node). Known_as (is_any (matches P (serial_of n) path.steps))) (sym (start_is names env path.start e))
+    truth_is (query.QueryCompare l rel r) names env h e =
         settle_is _ _ (ap (λ b. b && is_over P env (normal_operand r names)) (over_is l names env) ∙ over_is r names env)
         ∙ (ap (λ vs. Known_as (some_pair (compare rel) vs (settled_values P env (normal_operand r names)))) (values_are l names env e)
         ∙ ap (λ vs. Known_as (some_pair (compare rel) (meaning.values l (λ x. env (names x)) P) vs)) (values_are r names env e))
-    truth_is (query.Not c) names env h e = ap negate (truth_is c names env h e) ∙ negate_is (holds c (λ x. env (names x)) P)
-    truth_is (query.All cs) names env h e = all_is cs names env h e
-    truth_is (query.Any cs) names env h e = any_is cs names env h e
+    truth_is (query.QueryNot c) names env h e = ap negate (truth_is c names env h e) ∙ negate_is (holds c (λ x. env (names x)) P)
+    truth_is (query.QueryAll cs) names env h e = all_is cs names env h e
+    truth_is (query.QueryAny cs) names env h e = any_is cs names env h e
 
     all_is : (cs : query.QueryCondTrees) (names : Names) (env : Env) → In_P env → env 0 ≡ Root → truth_all (normal_conds cs names) env P ≡ Known_as (holds_all cs (λ x. env (names x)) P)
-    all_is query.no_cond names env h e = refl
-    all_is (query.more_conds c cs) names env h e =
+    all_is query.no_query_cond names env h e = refl
+    all_is (query.more_query_conds c cs) names env h e =
         ap (λ v. both v (truth_all (normal_conds cs names) env P)) (truth_is c names env h e)
         ∙ (ap (both (Known_as (holds c (λ x. env (names x)) P))) (all_is cs names env h e) ∙ both_is (holds c (λ x. env (names x)) P) (holds_all cs (λ x. env (names x)) P))
 
     any_is : (cs : query.QueryCondTrees) (names : Names) (env : Env) → In_P env → env 0 ≡ Root → truth_any (normal_conds cs names) env P ≡ Known_as (holds_any cs (λ x. env (names x)) P)
-    any_is query.no_cond names env h e = refl
-    any_is (query.more_conds c cs) names env h e =
+    any_is query.no_query_cond names env h e = refl
+    any_is (query.more_query_conds c cs) names env h e =
         ap (λ v. either v (truth_any (normal_conds cs names) env P)) (truth_is c names env h e)
         ∙ (ap (either (Known_as (holds c (λ x. env (names x)) P))) (any_is cs names env h e) ∙ either_is (holds c (λ x. env (names x)) P) (holds_any cs (λ x. env (names x)) P))
 
@@ -312,7 +312,7 @@ module _ (P : Tree) (w : Grown P) (o : Ordered P) (over : P.at ≡ None) where
   said_spread c first h L u (Then (Write s) d) env p f t = said_more c first h (Write s) (pieces (turned_in c first d)) d env p t (said_spread c first h L u d env p f t)
   said_spread c first h L u (Then (Copy x) d) env p f t = said_more c first h (Copy x) (pieces (turned_in c first d)) d env p t (said_spread c first h L u d env p f t)
   said_spread c first h L u (Then (If k a b) d) env p f t = said_more c first h (If k a b) (pieces (turned_in c first d)) d env p t (said_spread c first h L u d env p (λ z i. f z (In-right z (vars a ++ vars b) (vars d) i)) t)
-  said_spread c first h L u (Then (Off o) d) env p f t = said_more c first h (Off o) (pieces (turned_in c first d)) d env p t (said_spread c first h L u d env p f t)
+  said_spread c first h L u (Then (SignOff o) d) env p f t = said_more c first h (SignOff o) (pieces (turned_in c first d)) d env p t (said_spread c first h L u d env p f t)
   said_spread c first h L u (Then (For x y s e) d) env p f t =
       let g : Bool = agree first h in
       let E : BodyTree = cond (has_loop e) (spread c first e) (one (half c first e)) in
@@ -413,20 +413,20 @@ module _ (P : Tree) (w : Grown P) (o : Ordered P) (over : P.at ≡ None) where
     means (query.Elem name es) scope names k env s l h z =
         ap (λ z. start_tag name ++ z) (said-join (normal_exprs es names k) (one (Write (end_tag name))) env h
         ∙ (ap (λ z. z ++ (end_tag name ++ [])) (all_mean es scope names k env s l h z) ∙ ap (λ z. answer_exprs es (λ x. env (names x)) P ++ z) (append-nil (end_tag name))))
-    means (query.Path path) scope names k env s l h z =
+    means (query.QueryPath path) scope names k env s l h z =
         let q = and_parts (is_path scope path) (only_last path.steps) s in
         let y : ℕ = start_var names path.start in
         said-nest path.steps y k (λ v. one (Copy v)) env (copy_of P) (start_low names k path.start l) h
         (λ v env' m j g. said-one (Copy v) env' j ∙ said_copy (length P.nodes) (env' v) (j v) (omega arith))
         ∙ (ap (flat_map (copy_of P)) (chain_is P w o (env y) path.steps (h y) q.1)
         ∙ ap (λ (m : Node). flat_map (copy_of P) (matches P (serial_of m) path.steps)) (sym (start_is names env path.start z)))
-    means (query.For cs f e) scope names k env s l h z =
+    means (query.QueryFor cs f e) scope names k env s l h z =
         let q = and_parts (has_clause cs && are_clauses scope cs) (is_filter (scope_of scope cs) f && is_expr (scope_of scope cs) e) s in
         let a = (and_parts (has_clause cs) (are_clauses scope cs) q.0).1 in
         let b = (and_parts (is_filter (scope_of scope cs) f) (is_expr (scope_of scope cs) e) q.1).1 in
         said-clauses cs scope names k (λ inner j. guarded f inner (normal_expr e inner j)) env (λ r. cond (meaning.filtered f r P) (answer_expr e r P) []) a l h z
         (λ ns j v i low p y. said_filtered f e ns j v low p y (means e (scope_of scope cs) ns j v b low p y))
-    means (query.If c a b) scope names k env s l h z =
+    means (query.QueryIf c a b) scope names k env s l h z =
         let q = and_parts (is_cond scope c) (is_expr scope a && is_expr scope b) s in
         let p = and_parts (is_expr scope a) (is_expr scope b) q.1 in
         let low : Low names (k + loops a) = (let x = l.0 in omega arith, λ x. let y = l.1 x in omega arith) in
@@ -448,7 +448,7 @@ module _ (P : Tree) (w : Grown P) (o : Ordered P) (over : P.at ≡ None) where
 
 pub normal_law : NormalLaw
 normal_law q s d =
-    let ts : List Token = tokens d ++ End ∷ [] in
+    let ts : List TreeToken = tokens d ++ End ∷ [] in
     let g = ordered_all ts opening Grown-opening ordered_opening in
     let a = and_parts (has_expr (exprs_of q)) (are_exprs [] (exprs_of q)) s in
     all_mean (tree_of d) g.0 g.1 (whole_closed d) (exprs_of q) [] no_names 1 env0 a.1 (omega arith, λ x. omega arith) (λ x. root_in ts) refl

@@ -9,7 +9,7 @@ use Rattle.gcx_model.specs.declared.query.QOperand.{QOperand}
 use Rattle.gcx_model.specs.declared.query.QOperand.TheVariants as operand
 use Rattle.gcx_model.specs.Query as query
 use Rattle.gcx_model.specs.Query.{ExprTree, ExprTrees, exprs_of}
-use Rattle.gcx_model.specs.Core.{OperandTree, Path, Str, Num, CondTree, CondTrees, Always, Exists, Compare, Not, All, Any, no_cond, more_conds, ItemTree, Write, Copy, For, If, Off, BodyTree, Nil, Then}
+use Rattle.gcx_model.specs.Core.{OperandTree, Path, Str, Num, CondTree, CondTrees, Always, Exists, Compare, Not, AllOf, AnyOf, no_cond, more_conds, ItemTree, Write, Copy, For, If, SignOff, BodyTree, Nil, Then}
 use Rattle.gcx_model.specs.Members.{In, count}
 use Rattle.gcx_model.specs.Variables.{vars, item_vars}
 use Rattle.gcx_model.specs.Cores.{operand_in, cond_in, conds_in, ItemIn, BodyIn}
@@ -39,7 +39,7 @@ vars-spread c first Nil = refl
 vars-spread c first (Then (Write s) d) = vars-begin c first (Write s) (pieces (turned_in c first d)) ∙ vars-spread c first d
 vars-spread c first (Then (Copy x) d) = vars-begin c first (Copy x) (pieces (turned_in c first d)) ∙ vars-spread c first d
 vars-spread c first (Then (If k a b) d) = vars-begin c first (If k a b) (pieces (turned_in c first d)) ∙ ap (λ z. (vars a ++ vars b) ++ z) (vars-spread c first d)
-vars-spread c first (Then (Off o) d) = vars-begin c first (Off o) (pieces (turned_in c first d)) ∙ vars-spread c first d
+vars-spread c first (Then (SignOff o) d) = vars-begin c first (SignOff o) (pieces (turned_in c first d)) ∙ vars-spread c first d
 vars-spread c first (Then (For x y s e) d) =
     ap (λ z. x ∷ z) (ap (λ z. z ++ vars (spread c first d)) (go (has_loop e) (vars-spread c first e)) ∙ ap (λ z. vars e ++ z) (vars-spread c first d))
   where
@@ -75,11 +75,11 @@ mutual
   vars-expr query.Empty names k = refl
   vars-expr (query.Seq es) names k = vars-exprs es names k
   vars-expr (query.Elem name es) names k = vars-join (normal_exprs es names k) (one (Write _)) ∙ (append-nil (vars (normal_exprs es names k)) ∙ vars-exprs es names k)
-  vars-expr (query.Path path) names k = vars-nest (start_var names path.start) path.steps k (λ y. one (Copy y)) [] (λ z. refl) ∙ append-nil _
-  vars-expr (query.For cs f e) names k =
+  vars-expr (query.QueryPath path) names k = vars-nest (start_var names path.start) path.steps k (λ y. one (Copy y)) [] (λ z. refl) ∙ append-nil _
+  vars-expr (query.QueryFor cs f e) names k =
       vars-clauses cs names k (λ inner j. guarded f inner (normal_expr e inner j)) (count (k + clause_loops cs) (loops e)) (λ ns. vars-filtered f ns (normal_expr e ns (k + clause_loops cs)) ∙ vars-expr e ns (k + clause_loops cs))
       ∙ sym (count-append k (clause_loops cs) (loops e))
-  vars-expr (query.If c a b) names k =
+  vars-expr (query.QueryIf c a b) names k =
       vars-branch (normal_cond c names) (normal_expr a names k) (normal_expr b names (k + loops a))
       ∙ (ap (λ z. z ++ vars (normal_expr b names (k + loops a))) (vars-expr a names k) ∙ (ap (λ z. count k (loops a) ++ z) (vars-expr b names (k + loops a)) ∙ sym (count-append k (loops a) (loops b))))
 
@@ -105,8 +105,8 @@ mutual
   cond_more L M h (Exists x steps) i = h x i
   cond_more L M h (Compare l rel r) i = (operand_more L M h l i.0, operand_more L M h r i.1)
   cond_more L M h (Not c) i = cond_more L M h c i
-  cond_more L M h (All cs) i = conds_more L M h cs i
-  cond_more L M h (Any cs) i = conds_more L M h cs i
+  cond_more L M h (AllOf cs) i = conds_more L M h cs i
+  cond_more L M h (AnyOf cs) i = conds_more L M h cs i
 
   conds_more : (L M : List ℕ) → Within L M → (cs : CondTrees) → conds_in L cs → conds_in M cs
   conds_more L M h no_cond i = tt
@@ -119,7 +119,7 @@ no_loop_in L (Then (Write s) d) h q = (tt, no_loop_in L d h q.1)
 no_loop_in L (Then (Copy x) d) h q = (q.0, no_loop_in L d h q.1)
 no_loop_in L (Then (For x y s e) d) h q = absurd (true≢false h)
 no_loop_in L (Then (If c a b) d) h q = (q.0, no_loop_in L d h q.1)
-no_loop_in L (Then (Off o) d) h q = absurd q.0
+no_loop_in L (Then (SignOff o) d) h q = absurd q.0
 
 pub join_in : (b : Bool) (L : List ℕ) (a d : BodyTree) → BodyIn b L a → BodyIn b L d → BodyIn b L (join a d)
 join_in b L Nil d h k = k
@@ -140,7 +140,7 @@ spread_in L c first Nil i k = tt
 spread_in L c first (Then (Write s) d) i k = begin_in L c first (Write s) (pieces (turned_in c first d)) i tt (spread_in L c first d i k.1)
 spread_in L c first (Then (Copy x) d) i k = begin_in L c first (Copy x) (pieces (turned_in c first d)) i k.0 (spread_in L c first d i k.1)
 spread_in L c first (Then (If j a b) d) i k = begin_in L c first (If j a b) (pieces (turned_in c first d)) i k.0 (spread_in L c first d i k.1)
-spread_in L c first (Then (Off o) d) i k = absurd k.0
+spread_in L c first (Then (SignOff o) d) i k = absurd k.0
 spread_in L c first (Then (For x y s e) d) i k =
     let j : cond_in (x ∷ L) c = cond_more L (x ∷ L) (λ v m. inr m) c i in
     ((refl, k.0.1, go (has_loop e) refl j (spread_in (x ∷ L) c first e j k.0.2)), spread_in L c first d i k.1)
@@ -182,16 +182,16 @@ exists_scoped x (t ∷ rest) L i = i
 
 mutual
   pub cond_scoped : (c : query.QueryCondTree) (names : Names) (L : List ℕ) → Scoped names L → cond_in L (normal_cond c names)
-  cond_scoped query.Always names L s = tt
-  cond_scoped (query.Exists path) names L s = exists_scoped (start_var names path.start) path.steps L (start_in names L path.start s)
-  cond_scoped (query.Compare l rel r) names L s = (operand_scoped l names L s, operand_scoped r names L s)
-  cond_scoped (query.Not c) names L s = cond_scoped c names L s
-  cond_scoped (query.All cs) names L s = conds_scoped cs names L s
-  cond_scoped (query.Any cs) names L s = conds_scoped cs names L s
+  cond_scoped query.QueryAlways names L s = tt
+  cond_scoped (query.QueryExists path) names L s = exists_scoped (start_var names path.start) path.steps L (start_in names L path.start s)
+  cond_scoped (query.QueryCompare l rel r) names L s = (operand_scoped l names L s, operand_scoped r names L s)
+  cond_scoped (query.QueryNot c) names L s = cond_scoped c names L s
+  cond_scoped (query.QueryAll cs) names L s = conds_scoped cs names L s
+  cond_scoped (query.QueryAny cs) names L s = conds_scoped cs names L s
 
   conds_scoped : (cs : query.QueryCondTrees) (names : Names) (L : List ℕ) → Scoped names L → conds_in L (normal_conds cs names)
-  conds_scoped query.no_cond names L s = tt
-  conds_scoped (query.more_conds c cs) names L s = (cond_scoped c names L s, conds_scoped cs names L s)
+  conds_scoped query.no_query_cond names L s = tt
+  conds_scoped (query.more_query_conds c cs) names L s = (cond_scoped c names L s, conds_scoped cs names L s)
 
 nest_in : (y : ℕ) (ss : List Step) (k : ℕ) (inner : ℕ → BodyTree) (L : List ℕ) → In y L → ((z : ℕ) (M : List ℕ) → In z M → Within L M → BodyIn true M (inner z)) → BodyIn true L (nest y ss k inner)
 nest_in y [] k inner L i h = h y L i (λ v j. j)
@@ -212,9 +212,9 @@ mutual
   expr_in query.Empty names k L s = tt
   expr_in (query.Seq es) names k L s = exprs_in es names k L s
   expr_in (query.Elem name es) names k L s = (tt, join_in true L (normal_exprs es names k) (one (Write _)) (exprs_in es names k L s) (tt, tt))
-  expr_in (query.Path path) names k L s = nest_in (start_var names path.start) path.steps k (λ y. one (Copy y)) L (start_in names L path.start s) (λ z M i g. (i, tt))
-  expr_in (query.For cs f e) names k L s = clauses_in cs names k (λ inner j. guarded f inner (normal_expr e inner j)) L s (λ ns j M t. filtered_in f ns (normal_expr e ns j) M t (expr_in e ns j M t))
-  expr_in (query.If c a b) names k L s = branch_in L (normal_cond c names) (normal_expr a names k) (normal_expr b names (k + loops a)) (cond_scoped c names L s) (expr_in a names k L s) (expr_in b names (k + loops a) L s)
+  expr_in (query.QueryPath path) names k L s = nest_in (start_var names path.start) path.steps k (λ y. one (Copy y)) L (start_in names L path.start s) (λ z M i g. (i, tt))
+  expr_in (query.QueryFor cs f e) names k L s = clauses_in cs names k (λ inner j. guarded f inner (normal_expr e inner j)) L s (λ ns j M t. filtered_in f ns (normal_expr e ns j) M t (expr_in e ns j M t))
+  expr_in (query.QueryIf c a b) names k L s = branch_in L (normal_cond c names) (normal_expr a names k) (normal_expr b names (k + loops a)) (cond_scoped c names L s) (expr_in a names k L s) (expr_in b names (k + loops a) L s)
 
   exprs_in : (es : ExprTrees) (names : Names) (k : ℕ) (L : List ℕ) → Scoped names L → BodyIn true L (normal_exprs es names k)
   exprs_in query.no_expr names k L s = tt

@@ -7,7 +7,7 @@ pub use Rattle.gcx_model.specs.Needs.{Operand_needs, Cond_needs, Conds_need, Ite
 use Rattle.gcx_model.specs.Tree.{Node, Root, serial_of, above, within, Tree}
 use Rattle.gcx_model.specs.Paths.{any, all, hits, matches, first}
 use Rattle.gcx_base.specs.declared.steps.Step.{Step}
-use Rattle.gcx_model.specs.Core.{CondTree, Always, Exists, Compare, Not, All, Any, CondTrees, no_cond, more_conds, OperandTree, Path, Str, Num, Write, Copy, For, If, Off, BodyTree, Nil, Then, OffTree, RoleKind, Own, First, Whole, RoleRowTree}
+use Rattle.gcx_model.specs.Core.{CondTree, Always, Exists, Compare, Not, AllOf, AnyOf, CondTrees, no_cond, more_conds, OperandTree, Path, Str, Num, Write, Copy, For, If, SignOff, BodyTree, Nil, Then, OffTree, RoleTarget, Own, First, Whole, RoleRowTree}
 use Rattle.gcx_model.specs.Truth.{Env, bind_var}
 use Rattle.gcx_model.specs.Run.{env0, Action, Wrote, Offed}
 use Rattle.tree_laws.proofs.Reading.{Reading, given, signed, taken, live_some, is_live, is_held, reading}
@@ -26,7 +26,7 @@ use Rattle.placed_laws.proofs.AllTaken.{off_eq}
 use Rattle.tree_laws.proofs.Equal.{off_refl, off_other}
 use Rattle.placed_laws.proofs.Needed.{Way}
 use Rattle.placed_laws.proofs.Stays.{all_in}
-use Rattle.placed_laws.proofs.PointForms.{Frame, Rest, Round, Part, IsPoint, later, to_come}
+use Rattle.placed_laws.proofs.PointForms.{Frame, Rest, LoopRound, CopyPart, IsPoint, later, to_come}
 use Rattle.placed_laws.proofs.CorePlans.{At_row, row_has, row_is, in_end, good_based, roles_known, way_of, good_zero}
 use Rattle.placed_laws.proofs.Waits.{Waits, Waits-left, waits_unsigned, later_unsigned, loop_unsigned}
 use Rattle.placed_laws.proofs.Frames.{Bound_in, gives_behind, Last, Ready, ready_over, ready_under, ready_far, hit_on, Loop, Turn, Fact_rest, Facts, facts, last_waits}
@@ -45,7 +45,7 @@ Last-append : {X : Type 0} (l : X) (xs ys : List X) → Last l ys → Last l (xs
 Last-append l [] ys h = h
 Last-append l (x ∷ xs) ys h = Last-cons l x (xs ++ ys) (Last-append l xs ys h)
 
-own_kind : (k : RoleKind) → is_own_kind k ≡ true → k ≡ Own
+own_kind : (k : RoleTarget) → is_own_kind k ≡ true → k ≡ Own
 own_kind Own e = refl
 own_kind First e = absurd (false≢true e)
 own_kind Whole e = absurd (false≢true e)
@@ -88,8 +88,8 @@ live_from p P A n r o (q ∷ qs) (o' ∷ os) (inr h) g t = or_right _ _ (live_fr
 abbrev pub Solid_one : Frame → Type 0
 Solid_one (Rest Nil env) = ⊥
 Solid_one (Rest (Then i d) env) = Unit {0}
-Solid_one (Round x y s e env n) = Unit {0}
-Solid_one (Part x env k) = Unit {0}
+Solid_one (LoopRound x y s e env n) = Unit {0}
+Solid_one (CopyPart x env k) = Unit {0}
 
 abbrev pub Solid : List Frame → Type 0
 Solid [] = ⊥
@@ -198,8 +198,8 @@ module _ (P : Tree) (w : Grown P) (root : In Root P.nodes) (core : BodyTree) (go
     cond_site env (Compare l r s) m i (inl h) = site_left env (operand_rows l) (operand_rows s) m (operand_site env l m i h)
     cond_site env (Compare l r s) m i (inr h) = site_right env (operand_rows l) (operand_rows s) m (operand_site env s m i h)
     cond_site env (Not c) m i h = cond_site env c m i h
-    cond_site env (All cs) m i h = conds_site env cs m i h
-    cond_site env (Any cs) m i h = conds_site env cs m i h
+    cond_site env (AllOf cs) m i h = conds_site env cs m i h
+    cond_site env (AnyOf cs) m i h = conds_site env cs m i h
 
     conds_site : (env : Env) (cs : CondTrees) (m : Node) → In m P.nodes → Conds_need P env cs m → Site env (conds_rows cs) m
     conds_site env no_cond m i h = absurd h
@@ -220,15 +220,15 @@ module _ (P : Tree) (w : Grown P) (root : In Root P.nodes) (core : BodyTree) (go
       n i (subst (λ (z : Node). gives P (serial_of z) (l.0).rel (l.0).tail (l.0).kind n ≡ true) (sym at) (rw (l.4, l.5) (own_gives n (l.0).tail)))
 
   -- the present match, unless the body is over, and the later ones
-  turn_live : (top below : List Frame) (x y : ℕ) (s : Step) (e : BodyTree) (env : Env) (n m : Node) → fs ≡ top ++ Round x y s e env n ∷ below → Turn P w core good top x y s e env n below
+  turn_live : (top below : List Frame) (x y : ℕ) (s : Step) (e : BodyTree) (env : Env) (n m : Node) → fs ≡ top ++ LoopRound x y s e env n ∷ below → Turn P w core good top x y s e env n below
       → ((top ≡ Rest Nil (bind_var env x n) ∷ [] → ⊥) × (n ≡ m)) ⊎ In m (later n (matches P (serial_of (env y)) (s ∷ []))) → is_live (reading core) P before m ≡ true
   turn_live top below x y s e env n m are t h = go t.straight t.var h
     where
       far : Ready P w core good y (env y) below → Ready P w core good y (env y) fs
-      far r = subst (λ (z : List Frame). Ready P w core good y (env y) z) (sym are) (ready_under P w core good y (env y) top (Round x y s e env n ∷ below) (ready_over P w core good y (env y) (Round x y s e env n) below r))
+      far r = subst (λ (z : List Frame). Ready P w core good y (env y) z) (sym are) (ready_under P w core good y (env y) top (LoopRound x y s e env n ∷ below) (ready_over P w core good y (env y) (LoopRound x y s e env n) below r))
 
       up : (o : OffTree) → Waits o (bind_var env x n) top → Waits o (bind_var env x n) fs
-      up o k = subst (λ (z : List Frame). Waits o (bind_var env x n) z) (sym are) (Waits-left o (bind_var env x n) top (Round x y s e env n ∷ below) k)
+      up o k = subst (λ (z : List Frame). Waits o (bind_var env x n) z) (sym are) (Waits-left o (bind_var env x n) top (LoopRound x y s e env n ∷ below) k)
 
       present : V x ≡ child_var true x s (V y) → (top ≡ Rest Nil (bind_var env x n) ∷ [] → ⊥) → is_live (reading core) P before n ≡ true
       present c open' =
@@ -278,9 +278,9 @@ module _ (P : Tree) (w : Grown P) (root : In Root P.nodes) (core : BodyTree) (go
   pub bound_live : (x : ℕ) (n : Node) (top gs : List Frame) → fs ≡ top ++ gs → Solid top → Facts P w core good top gs → Bound_in x n gs → is_live (reading core) P before n ≡ true
   bound_live x n top [] are so f h = subst (λ (z : Node). is_live (reading core) P before z ≡ true) (sym h.1) (root_live (λ e. solid_open env0 top so (sym (are ∙ append-nil top) ∙ e)))
   bound_live x n top (Rest d env ∷ gs) are so f h = bound_live x n (top ++ Rest d env ∷ []) gs (are ∙ sym (append_assoc top (Rest d env ∷ []) gs)) (solid_more top (Rest d env) so) f.1 h
-  bound_live x n top (Part z env k ∷ gs) are so f h = bound_live x n (top ++ Part z env k ∷ []) gs (are ∙ sym (append_assoc top (Part z env k ∷ []) gs)) (solid_more top (Part z env k) so) f.1 h
-  bound_live x n top (Round z y s e env m ∷ gs) are so f (inl h) = turn_live top gs z y s e env m n are f.0 (inl ((λ e'. solid_open (bind_var env z m) top so e'), h.1))
-  bound_live x n top (Round z y s e env m ∷ gs) are so f (inr h) = bound_live x n (top ++ Round z y s e env m ∷ []) gs (are ∙ sym (append_assoc top (Round z y s e env m ∷ []) gs)) (solid_more top (Round z y s e env m) so) f.1 h
+  bound_live x n top (CopyPart z env k ∷ gs) are so f h = bound_live x n (top ++ CopyPart z env k ∷ []) gs (are ∙ sym (append_assoc top (CopyPart z env k ∷ []) gs)) (solid_more top (CopyPart z env k) so) f.1 h
+  bound_live x n top (LoopRound z y s e env m ∷ gs) are so f (inl h) = turn_live top gs z y s e env m n are f.0 (inl ((λ e'. solid_open (bind_var env z m) top so e'), h.1))
+  bound_live x n top (LoopRound z y s e env m ∷ gs) are so f (inr h) = bound_live x n (top ++ LoopRound z y s e env m ∷ []) gs (are ∙ sym (append_assoc top (LoopRound z y s e env m ∷ []) gs)) (solid_more top (LoopRound z y s e env m) so) f.1 h
 
   part_live : (top below : List Frame) (f : Frame) (x : ℕ) (env : Env) (m : Node) → fs ≡ top ++ f ∷ below → In m P.nodes → In (whole_row x) (roles_of core) → Ready P w core good x (env x) (f ∷ below) → within (serial_of (env x)) m ≡ true → is_live (reading core) P before m ≡ true
   part_live top below f x env m are i row ready h =
@@ -320,9 +320,9 @@ module _ (P : Tree) (w : Grown P) (root : In Root P.nodes) (core : BodyTree) (go
       subst (λ (z : Node). is_live (reading core) P before z ≡ true) h
       (bound_live y (env y) (top ++ Rest (Then (For x y s e) d) env ∷ []) below (are ∙ sym (append_assoc top (Rest (Then (For x y s e) d) env ∷ []) below)) (solid_last top (Rest (Then (For x y s e) d) env) tt) g l.bound)
   rest_live top below (Then (For x y s e) d) env m are i f g (inr h) = loop_live top below x y s e d env m are f h
-  rest_live top below (Then (Off o) d) env m are i f g h =
+  rest_live top below (Then (SignOff o) d) env m are i f g h =
       subst (λ (z : Node). is_live (reading core) P before z ≡ true) h
-      (bound_live o.base (env o.base) (top ++ Rest (Then (Off o) d) env ∷ []) below (are ∙ sym (append_assoc top (Rest (Then (Off o) d) env ∷ []) below)) (solid_last top (Rest (Then (Off o) d) env) tt) g f)
+      (bound_live o.base (env o.base) (top ++ Rest (Then (SignOff o) d) env ∷ []) below (are ∙ sym (append_assoc top (Rest (Then (SignOff o) d) env ∷ []) below)) (solid_last top (Rest (Then (SignOff o) d) env) tt) g f)
   rest_live top below (Then (If c a b) d) env m are i f g (inl h) =
       let s = cond_site env c m i h in
       let k = f s.0 s.1 in
@@ -336,13 +336,13 @@ module _ (P : Tree) (w : Grown P) (root : In Root P.nodes) (core : BodyTree) (go
   from_facts : (top gs : List Frame) (m : Node) → fs ≡ top ++ gs → In m P.nodes → Facts P w core good top gs → Needs P top gs m → is_live (reading core) P before m ≡ true
   from_facts top [] m are i f h = subst (λ (z : Node). is_live (reading core) P before z ≡ true) h.1 (root_live (λ e. h.0 (ap (to_come P) (sym (are ∙ append-nil top) ∙ e))))
   from_facts top (Rest d env ∷ gs) m are i f (inl h) = rest_live top gs d env m are i f.0.0 f.1 h
-  from_facts top (Round x y s e env n ∷ gs) m are i f (inl (inl (inl h))) = turn_live top gs x y s e env n m are f.0 (inl ((λ e'. h.0 (ap (to_come P) e')), h.1))
-  from_facts top (Round x y s e env n ∷ gs) m are i f (inl (inl (inr h))) = turn_live top gs x y s e env n m are f.0 (inr h)
-  from_facts top (Round x y s e env n ∷ gs) m are i f (inl (inr h)) =
+  from_facts top (LoopRound x y s e env n ∷ gs) m are i f (inl (inl (inl h))) = turn_live top gs x y s e env n m are f.0 (inl ((λ e'. h.0 (ap (to_come P) e')), h.1))
+  from_facts top (LoopRound x y s e env n ∷ gs) m are i f (inl (inl (inr h))) = turn_live top gs x y s e env n m are f.0 (inr h)
+  from_facts top (LoopRound x y s e env n ∷ gs) m are i f (inl (inr h)) =
       let t : Turn P w core good top x y s e env n gs = f.0 in
       subst (λ (z : Node). is_live (reading core) P before z ≡ true) h
-      (bound_live y (env y) (top ++ Round x y s e env n ∷ []) gs (are ∙ sym (append_assoc top (Round x y s e env n ∷ []) gs)) (solid_last top (Round x y s e env n) tt) f.1 t.bound)
-  from_facts top (Part x env k ∷ gs) m are i f (inl h) = part_live top gs (Part x env k) x env m are i f.0.0 (ready_over P w core good x (env x) (Part x env k) gs f.0.1.0) h
+      (bound_live y (env y) (top ++ LoopRound x y s e env n ∷ []) gs (are ∙ sym (append_assoc top (LoopRound x y s e env n ∷ []) gs)) (solid_last top (LoopRound x y s e env n) tt) f.1 t.bound)
+  from_facts top (CopyPart x env k ∷ gs) m are i f (inl h) = part_live top gs (CopyPart x env k) x env m are i f.0.0 (ready_over P w core good x (env x) (CopyPart x env k) gs f.0.1.0) h
   from_facts top (g ∷ gs) m are i f (inr h) = from_facts (top ++ g ∷ []) gs m (are ∙ sym (append_assoc top (g ∷ []) gs)) i f.1 h
 
   -- what has a live role is held

@@ -4,7 +4,7 @@ use Rattle.std.proofs.lemmas.Bool.{and_parts, eq-eqb, not-true}
 use Rattle.gcx_model.specs.Tree.{Node, serial_of, Tree, is_closed}
 use Rattle.gcx_base.specs.declared.steps.Step.{Step}
 use Rattle.gcx_model.specs.Paths.{matches}
-use Rattle.gcx_model.specs.Core.{ItemTree, Write, Copy, For, If, Off, BodyTree, Nil, Then, OffTree}
+use Rattle.gcx_model.specs.Core.{ItemTree, Write, Copy, For, If, SignOff, BodyTree, Nil, Then, OffTree}
 use Rattle.gcx_model.specs.Truth.{Env, bind_var, truth}
 use Rattle.gcx_model.specs.Run.{run_item, run}
 use Rattle.tree_laws.proofs.Lists.{In}
@@ -20,7 +20,7 @@ abbrev mutual
   quiet_item p (Copy x) = true
   quiet_item p (For x y s d) = quiet p d
   quiet_item p (If c d e) = quiet p d && quiet p e
-  quiet_item p (Off o) = not (p o)
+  quiet_item p (SignOff o) = not (p o)
 
   pub quiet : (OffTree → Bool) → BodyTree → Bool
   quiet p Nil = true
@@ -29,7 +29,7 @@ abbrev mutual
 -- the body of b itself: one statement that p picks, with the base b
 pub data Own (p : OffTree → Bool) (b : ℕ) : BodyTree → Type 0 where
   Before : {i : ItemTree} {d : BodyTree} → quiet_item p i ≡ true → Own p b d → Own p b (Then i d)
-  Itself : {o : OffTree} {d : BodyTree} → p o ≡ true → o.base ≡ b → quiet p d ≡ true → Own p b (Then (Off o) d)
+  Itself : {o : OffTree} {d : BodyTree} → p o ≡ true → o.base ≡ b → quiet p d ≡ true → Own p b (Then (SignOff o) d)
 
 -- the way from a body, whose variable is y, to that of b, through loops alone
 pub data Way (p : OffTree → Bool) (b : ℕ) : ℕ → BodyTree → List Step → Type 0 where
@@ -51,7 +51,7 @@ module _ (P : Tree) (w : Grown P) (p : OffTree → Bool) (b : ℕ) where
           | inl i ↦ quiet_sig d env m q.0 i
           | inr i ↦ quiet_sig e env m q.1 i
         ]
-    quiet_item_sig (Off o) env m a h = subst (λ (c : Bool). In m (cond c (serial_of (env o.base) ∷ []) [])) (not-true (p o) a) h
+    quiet_item_sig (SignOff o) env m a h = subst (λ (c : Bool). In m (cond c (serial_of (env o.base) ∷ []) [])) (not-true (p o) a) h
 
     pub quiet_sig : (d : BodyTree) (env : Env) (m : ℕ) → quiet p d ≡ true → In m (sig p (run d env P).acts) → ⊥
     quiet_sig Nil env m a h = h
@@ -67,7 +67,7 @@ module _ (P : Tree) (w : Grown P) (p : OffTree → Bool) (b : ℕ) where
     | inl k ↦ absurd (quiet_item_sig i env m a k)
     | inr k ↦ own_sig rest env m o k
   ]
-  own_sig d env m (Itself {o = o} {d = rest} f g a) h = elim (sig-seq p m (run_item (Off o) env P) (run rest env P) h) [
+  own_sig d env m (Itself {o = o} {d = rest} f g a) h = elim (sig-seq p m (run_item (SignOff o) env P) (run rest env P) h) [
     | inl k ↦ elim (subst (λ (c : Bool). In m (cond c (serial_of (env o.base) ∷ []) [])) f k) [ inl e ↦ sym e ∙ ap (λ x. serial_of (env x)) g | inr z ↦ absurd z ]
     | inr k ↦ absurd (quiet_sig rest env m a k)
   ]

@@ -3,7 +3,7 @@ use Rattle.std.proofs.Common.{◌≡◌, ℕ, Bool, true, false, List, [], ◌�
 use Rattle.gcx_model.specs.Tree.{Node, serial_of, Tree, is_closed}
 use Rattle.gcx_base.specs.declared.steps.Step.{Step}
 use Rattle.gcx_model.specs.Paths.{hits, matches}
-use Rattle.gcx_model.specs.Core.{ItemTree, For, Off, BodyTree, Then, OffTree}
+use Rattle.gcx_model.specs.Core.{ItemTree, For, SignOff, BodyTree, Then, OffTree}
 use Rattle.gcx_model.specs.Truth.{Env, bind_var}
 use Rattle.gcx_model.specs.Run.{Out, loop, seq, seq_if, run_item, run}
 use Rattle.base_laws.proofs.Members.{none_in}
@@ -43,7 +43,7 @@ module _ (P : Tree) (w : Grown P) (p : OffTree → Bool) (b : ℕ) where
 
   own_once : (d : BodyTree) (env : Env) → Own p b d → Once (sig p (run d env P).acts)
   own_once d env (Before {i = i} {d = rest} q o) = Once-skip i rest env q (own_once rest env o)
-  own_once d env (Itself {o = o} {d = rest} f g q) = Once-last (Off o) rest env q (rw f ((λ j. j), tt))
+  own_once d env (Itself {o = o} {d = rest} f g q) = Once-last (SignOff o) rest env q (rw f ((λ j. j), tt))
 
   pub way_once : (y : ℕ) (d : BodyTree) (path : List Step) → Way p b y d path → (env : Env) → In (env y) P.nodes → one_desc path ≡ true → Once (sig p (run d env P).acts)
   way_once y d path (Top o) env i c = own_once d env o

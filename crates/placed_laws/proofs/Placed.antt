@@ -4,7 +4,7 @@ use Rattle.std.specs.List.{filter}
 use Rattle.std.proofs.lemmas.List.Elements.{filter-append}
 use Rattle.std.proofs.lemmas.Bool.{and_parts, eqb-true, not-true}
 use Rattle.gcx_base.specs.declared.steps.Step.{Step}
-use Rattle.gcx_model.specs.Core.{ItemTree, Write, Copy, For, If, Off, BodyTree, Nil, Then, OffTree}
+use Rattle.gcx_model.specs.Core.{ItemTree, Write, Copy, For, If, SignOff, BodyTree, Nil, Then, OffTree}
 use Rattle.gcx_model.specs.Placed.{of_role, without, item_offs, offs_in, add_offs, offs_body, place, at_end, offs_of}
 use Rattle.tree_laws.proofs.Reading.{reading}
 use Rattle.gcx_model.specs.Roles.{roles_of}
@@ -27,7 +27,7 @@ without_core (Then (Write s) d) b L q = ap (Then (Write s)) (without_core d b L 
 without_core (Then (Copy x) d) b L q = ap (Then (Copy x)) (without_core d b L q.1)
 without_core (Then (For x y s e) d) b L q = ap (λ z. Then (For x y s z) (without d)) (without_core e b (x ∷ L) q.0.2) ∙ ap (Then (For x y s e)) (without_core d b L q.1)
 without_core (Then (If c a e) d) b L q = ap (λ z. Then (If c z (without e)) (without d)) (without_core a false L q.0.1) ∙ (ap (λ z. Then (If c a z) (without d)) (without_core e false L q.0.2) ∙ ap (Then (If c a e)) (without_core d b L q.1))
-without_core (Then (Off o) d) b L q = absurd q.0
+without_core (Then (SignOff o) d) b L q = absurd q.0
 
 without_placed : (ends : ℕ → List OffTree) (d : BodyTree) (os : List OffTree) (b : Bool) (L : List ℕ) → BodyIn b L d → without (add_offs (place ends d) os) ≡ d
 without_placed ends Nil os b L q = without_offs os
@@ -35,7 +35,7 @@ without_placed ends (Then (Write s) d) os b L q = ap (Then (Write s)) (without_p
 without_placed ends (Then (Copy x) d) os b L q = ap (Then (Copy x)) (without_placed ends d os b L q.1)
 without_placed ends (Then (For x y s e) d) os b L q = ap (λ z. Then (For x y s z) (without (add_offs (place ends d) os))) (without_placed ends e (ends x) b (x ∷ L) q.0.2) ∙ ap (Then (For x y s e)) (without_placed ends d os b L q.1)
 without_placed ends (Then (If c a e) d) os b L q = ap (λ z. Then (If c z (without e)) (without (add_offs (place ends d) os))) (without_core a false L q.0.1) ∙ (ap (λ z. Then (If c a z) (without (add_offs (place ends d) os))) (without_core e false L q.0.2) ∙ ap (Then (If c a e)) (without_placed ends d os b L q.1))
-without_placed ends (Then (Off o) d) os b L q = absurd q.0
+without_placed ends (Then (SignOff o) d) os b L q = absurd q.0
 
 pub without_is : (core : BodyTree) → Good core → without (reading core).body ≡ core
 without_is core good = without_placed (at_end (offs_of core)) core (at_end (offs_of core) 0) true (0 ∷ []) good.inside
@@ -47,8 +47,8 @@ module _ (Q : OffTree → Type 0) where
     item_only_in (Copy x) t q h = absurd h
     item_only_in (For x y s d) t q h = only_in d t q h
     item_only_in (If c a b) t q h = elim (In-append t (offs_in a) (offs_in b) h) [ inl i ↦ only_in a t q.0 i | inr i ↦ only_in b t q.1 i ]
-    item_only_in (Off o) t q (inl e) = subst Q e q
-    item_only_in (Off o) t q (inr h) = absurd h
+    item_only_in (SignOff o) t q (inl e) = subst Q e q
+    item_only_in (SignOff o) t q (inr h) = absurd h
 
     only_in : (d : BodyTree) (t : OffTree) → Only Q d → In t (offs_in d) → Q t
     only_in Nil t q h = absurd h
@@ -64,7 +64,7 @@ module _ (p : OffTree → Bool) (b : ℕ) where
     quiet_item_none (Copy x) q = refl
     quiet_item_none (For x y s d) q = quiet_none d q
     quiet_item_none (If c a e) q = let r = and_parts (quiet p a) (quiet p e) q in none_of (offs_in a) (offs_in e) (quiet_none a r.0) (quiet_none e r.1)
-    quiet_item_none (Off o) q = rw (not-true (p o) q) refl
+    quiet_item_none (SignOff o) q = rw (not-true (p o) q) refl
 
     quiet_none : (d : BodyTree) → quiet p d ≡ true → filter p (offs_in d) ≡ []
     quiet_none Nil q = refl

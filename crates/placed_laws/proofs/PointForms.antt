@@ -4,8 +4,8 @@ use Rattle.std.specs.List.{filter}
 use Rattle.std.proofs.lemmas.List.{append-nil}
 use Rattle.std.proofs.lemmas.Bool.{true≢false, lt-ltb, le-ltb}
 use Rattle.std.proofs.Math.Seq.{drop-append_seam}
-pub use Rattle.gcx_model.specs.Points.{Frame, Rest, Round, Part, later, body_at, behind, to_come, IsPoint, Begins, Past, InLoop, InYes, InNo, InCopy}
-use Rattle.gcx_model.specs.Tree.{Node, serial_of, Tree, Token, grow, is_closed}
+pub use Rattle.gcx_model.specs.Points.{Frame, Rest, LoopRound, CopyPart, later, body_at, behind, to_come, IsPoint, Begins, PastItem, InLoop, InYes, InNo, InCopy}
+use Rattle.gcx_model.specs.Tree.{Node, serial_of, Tree, TreeToken, grow, is_closed}
 use Rattle.gcx_model.specs.Paths.{hits, matches}
 use Rattle.gcx_model.specs.Core.{Copy, For, BodyTree, Then}
 use Rattle.gcx_model.specs.Run.{copy, Action, Out, idle, seq, seq_if, loop, choose, run_item, run}
@@ -50,10 +50,10 @@ seq-after xs a b = go a.done
 pub to_come-append : (P : Tree) (fs gs : List Frame) → to_come P (fs ++ gs) ≡ seq (to_come P fs) (to_come P gs)
 to_come-append P [] gs = refl
 to_come-append P (Rest d env ∷ fs) gs = ap (seq (run d env P)) (to_come-append P fs gs) ∙ sym (seq-assoc (run d env P) (to_come P fs) (to_come P gs))
-to_come-append P (Round x y s e env n ∷ fs) gs =
+to_come-append P (LoopRound x y s e env n ∷ fs) gs =
     let a : Out = loop (body_at e x env P) (later n (matches P (serial_of (env y)) (s ∷ []))) (is_closed P (env y)) in
     ap (seq a) (to_come-append P fs gs) ∙ sym (seq-assoc a (to_come P fs) (to_come P gs))
-to_come-append P (Part x env k ∷ fs) gs = let a : Out = behind k (copy (length P.nodes) P (env x)) in ap (seq a) (to_come-append P fs gs) ∙ sym (seq-assoc a (to_come P fs) (to_come P gs))
+to_come-append P (CopyPart x env k ∷ fs) gs = let a : Out = behind k (copy (length P.nodes) P (env x)) in ap (seq a) (to_come-append P fs gs) ∙ sym (seq-assoc a (to_come P fs) (to_come P gs))
 
 split : (o : Out) (xs ys : List Action) → o.acts ≡ xs ++ ys → o ≡ after xs (behind (length xs) o)
 split o xs ys e = rw (e, drop-append_seam xs ys) (rw (sym e) refl)
@@ -73,7 +73,7 @@ later_is (x ∷ pre) n post r = let l = r.0 n (In-right n pre (n ∷ post) (inl 
 -- the actions so far, and then those that are still to come, are the run
 pub resume : (P : Tree) → Grown P → (d : BodyTree) (env : Env) (before : List Action) (fs : List Frame) → IsPoint P d env before fs → run d env P ≡ after before (to_come P fs)
 resume P w d env before fs Begins = sym (seq-idle (run d env P))
-resume P w d env before fs (Past {i = i} {d = rest} {before = before'} e h) =
+resume P w d env before fs (PastItem {i = i} {d = rest} {before = before'} e h) =
     seq-done (run_item i env P) (run rest env P) e ∙ (ap (after (run_item i env P).acts) (resume P w rest env before' fs h) ∙ after-after (run_item i env P).acts before' (to_come P fs))
 resume P w d env before fs (InYes {c = c} {a = a} {b = b} {d = rest} {fs = fs'} e h) =
     ap (λ k. seq (choose k (run a env P) (run b env P)) (run rest env P)) e
@@ -89,7 +89,7 @@ resume P w d env before fs (InLoop {x = x} {y = y} {s = s} {e = e} {d = rest} {b
     let f : Node → Out = body_at e x env P in
     let ms : List Node = matches P (serial_of (env y)) (s ∷ []) in
     let over : Bool = is_closed P (env y) in
-    let gs : List Frame = Round x y s e env n ∷ Rest rest env ∷ [] in
+    let gs : List Frame = LoopRound x y s e env n ∷ Rest rest env ∷ [] in
     let a : Out = loop f pre true in
     let lt : later n ms ≡ post = ap (later n) m ∙ later_is pre n post (subst (λ (z : List Node). Rising z) m (Rising-filter 0 (hits (serial_of (env y)) (s ∷ [])) P.nodes w.numbered)) in
     ap (λ z. seq (loop f z over) (run rest env P)) m
@@ -118,12 +118,12 @@ firm_true a b k (Kept e) f n = sym e ∙ f
 firm_true a b k (Learnt e) f n = absurd (n (sym f ∙ e))
 
 -- the point stays where it is while tokens come
-pub stands_on : (t : Token) (P : Tree) (w : Grown P) (d : BodyTree) (env : Env) (before : List Action) (fs : List Frame) → Bound t P w env → IsPoint P d env before fs → IsPoint (grow t P) d env before fs
+pub stands_on : (t : TreeToken) (P : Tree) (w : Grown P) (d : BodyTree) (env : Env) (before : List Action) (fs : List Frame) → Bound t P w env → IsPoint P d env before fs → IsPoint (grow t P) d env before fs
 stands_on t P w d env before fs b Begins = Begins
-stands_on t P w d env before fs b (Past {i = i} {d = rest} {before = before'} e h) =
+stands_on t P w d env before fs b (PastItem {i = i} {d = rest} {before = before'} e h) =
     let same = same_when_done (run_item i env P) (run_item i env (grow t P)) (item_grows t P w i env b) e in
     subst (λ (z : List Action). IsPoint (grow t P) (Then i rest) env (z ++ before') fs) (sym (ap (λ (o : Out). o.acts) same))
-    (Past (ap (λ (o : Out). o.done) (sym same) ∙ e) (stands_on t P w rest env before' fs b h))
+    (PastItem (ap (λ (o : Out). o.done) (sym same) ∙ e) (stands_on t P w rest env before' fs b h))
 stands_on t P w d env before fs b (InYes {c = c} {a = a} {fs = fs'} e h) = InYes (firm_true _ _ True (truth_firmer t P w c env b) e (λ k. cc)) (stands_on t P w a env before fs' b h)
 stands_on t P w d env before fs b (InNo {c = c} {b = other} {fs = fs'} e h) = InNo (firm_true _ _ False (truth_firmer t P w c env b) e (λ k. cc)) (stands_on t P w other env before fs' b h)
 stands_on t P w d env before fs b (InLoop {x = x} {y = y} {s = s} {e = e} {d = rest} {before = before'} {fs = fs'} pre n post m dn h) =
@@ -134,12 +134,12 @@ stands_on t P w d env before fs b (InLoop {x = x} {y = y} {s = s} {e = e} {d = r
     let each : (a : Node) → In a pre → Before (f a) (g a) = λ a i. run_grows t P w e (bind_var env x a) (Bound-bind t P w env x a b (in_P a (In-left a pre (n ∷ post) i))) in
     let grown : Before (loop f pre true) (loop g (pre ++ []) true) = loop_mono f g pre [] true true each (λ q. (refl, refl)) in
     let same : loop f pre true ≡ loop g pre true = same_when_done _ _ grown dn ∙ ap (λ z. loop g z true) (append-nil pre) in
-    subst (λ (z : List Action). IsPoint (grow t P) (Then (For x y s e) rest) env (z ++ before') (fs' ++ Round x y s e env n ∷ Rest rest env ∷ [])) (sym (ap (λ (o : Out). o.acts) same))
+    subst (λ (z : List Action). IsPoint (grow t P) (Then (For x y s e) rest) env (z ++ before') (fs' ++ LoopRound x y s e env n ∷ Rest rest env ∷ [])) (sym (ap (λ (o : Out). o.acts) same))
     (InLoop pre n (post ++ more) (Matches-grow t P (serial_of (env y)) (s ∷ []) ∙ (ap (λ z. z ++ more) m ∙ append_assoc pre (n ∷ post) more))
     (ap (λ (o : Out). o.done) (sym same) ∙ dn)
     (stands_on t P w e (bind_var env x n) before' fs' (Bound-bind t P w env x n b (in_P n (In-right n pre (n ∷ post) (inl refl)))) h))
 stands_on t P w d env before fs b (InCopy {x = x} {d = rest} before' rest' e) = go (item_grows t P w (Copy x) env b)
   where
-    go : Before (run_item (Copy x) env P) (run_item (Copy x) env (grow t P)) → IsPoint (grow t P) (Then (Copy x) rest) env before (Part x env (length before) ∷ Rest rest env ∷ [])
+    go : Before (run_item (Copy x) env P) (run_item (Copy x) env (grow t P)) → IsPoint (grow t P) (Then (Copy x) rest) env before (CopyPart x env (length before) ∷ Rest rest env ∷ [])
     go (Same f) = InCopy before rest' (ap (λ (o : Out). o.acts) (sym f) ∙ e)
     go (More f r g) = InCopy before (rest' ++ r) (g ∙ (ap (λ z. z ++ r) e ∙ append_assoc before rest' r))

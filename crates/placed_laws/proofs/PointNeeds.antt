@@ -4,12 +4,12 @@ use Rattle.gcx_base.specs.declared.steps.Step.{Step}
 use Rattle.gcx_model.specs.Tree.{Node, serial_of, Tree}
 use Rattle.gcx_model.specs.Paths.{matches}
 use Rattle.gcx_model.specs.Members.{In}
-use Rattle.gcx_model.specs.Core.{Then, If, For, Off}
+use Rattle.gcx_model.specs.Core.{Then, If, For, SignOff}
 use Rattle.gcx_model.specs.Truth.{truth}
 use Rattle.gcx_model.specs.Run.{Offed, copy}
 use Rattle.gcx_model.specs.Placed.{plan_of}
 use Rattle.gcx_model.specs.Held.{path_of, held, held_tree}
-use Rattle.gcx_model.specs.Points.{so_far, Frame, Rest, Round, Part, later, PointAt, Bound_in}
+use Rattle.gcx_model.specs.Points.{so_far, Frame, Rest, LoopRound, CopyPart, later, PointAt, Bound_in}
 use Rattle.gcx_model.specs.Needs.{Needs, Uses}
 use Rattle.placed_laws.specs.Needs.{NeedLaw, TruthHeld, TurnsHeld, LoopHeld, CopyHeld, BoundLaw, TurnLaw, UnsignedLaw}
 use Rattle.tree_laws.proofs.Matches.{Matches-in, Matches-from}
@@ -32,7 +32,7 @@ truth_held core good plan pl P k r top below c a b d env = from_state core good 
     (λ ts k st. ap (λ z. truth c env (tree_of_held (tree ts) z)) (held_is core good (tree ts) (so_far (plan_of core) (tree ts) k)) ∙ over.truth_held core good ts k top below c a b d env st) plan pl P k r
 
 pub turns_held : TurnsHeld
-turns_held core good plan pl P k r top below x y s e env n = from_state core good (λ plan P k. PointAt plan P k (top ++ Round x y s e env n ∷ below) → later n (matches (held_tree plan P (so_far plan P k)) (serial_of (env y)) (s ∷ [])) ≡ later n (matches P (serial_of (env y)) (s ∷ [])))
+turns_held core good plan pl P k r top below x y s e env n = from_state core good (λ plan P k. PointAt plan P k (top ++ LoopRound x y s e env n ∷ below) → later n (matches (held_tree plan P (so_far plan P k)) (serial_of (env y)) (s ∷ [])) ≡ later n (matches P (serial_of (env y)) (s ∷ [])))
     (λ ts k st. ap (λ z. later n (matches (tree_of_held (tree ts) z) (serial_of (env y)) (s ∷ []))) (held_is core good (tree ts) (so_far (plan_of core) (tree ts) k)) ∙ over.turns_held core good ts k top below x y s e env n st) plan pl P k r
 
 pub loop_held : LoopHeld
@@ -40,7 +40,7 @@ loop_held core good plan pl P k r top below x y s e d env = from_state core good
     (λ ts k st. ap (λ z. matches (tree_of_held (tree ts) z) (serial_of (env y)) (s ∷ [])) (held_is core good (tree ts) (so_far (plan_of core) (tree ts) k)) ∙ over.loop_held core good ts k top below x y s e d env st) plan pl P k r
 
 pub copy_held : CopyHeld
-copy_held core good plan pl P k r top below x env made most = from_state core good (λ plan P k. PointAt plan P k (top ++ Part x env made ∷ below) → copy most (held_tree plan P (so_far plan P k)) (env x) ≡ copy most P (env x))
+copy_held core good plan pl P k r top below x env made most = from_state core good (λ plan P k. PointAt plan P k (top ++ CopyPart x env made ∷ below) → copy most (held_tree plan P (so_far plan P k)) (env x) ≡ copy most P (env x))
     (λ ts k st. ap (λ z. copy most (tree_of_held (tree ts) z) (env x)) (held_is core good (tree ts) (so_far (plan_of core) (tree ts) k)) ∙ over.copy_held core good ts k top below x env made st most) plan pl P k r
 
 pub bound_law : BoundLaw
@@ -51,12 +51,12 @@ bound_law core good plan pl P k r top below i d env = from_state core good (λ p
     (b, subst (λ (z : List Step). In (env x) (matches (tree ts) 0 z)) (sym (path_is core good x)) (Matches-from (tree ts) 0 (path_in core x) (env x) h.0 h.1))) plan pl P k r
 
 pub turn_law : TurnLaw
-turn_law core good plan pl P k r top below x y s e env n = from_state core good (λ plan P k. PointAt plan P k (top ++ Round x y s e env n ∷ below) → Bound_in y (env y) below × In n (matches P (serial_of (env y)) (s ∷ [])) × In n (matches P 0 (path_of plan x)))
+turn_law core good plan pl P k r top below x y s e env n = from_state core good (λ plan P k. PointAt plan P k (top ++ LoopRound x y s e env n ∷ below) → Bound_in y (env y) below × In n (matches P (serial_of (env y)) (s ∷ [])) × In n (matches P 0 (path_of plan x)))
     (λ ts k st.
     let b = over.parent_bound core good ts k top below x y s e env n st in
     let h = over.turn_bound core good ts k top below x y s e env n st in
     (b, h.0, subst (λ (z : List Step). In n (matches (tree ts) 0 z)) (sym (path_is core good x)) (Matches-from (tree ts) 0 (path_in core x) n (Matches-in (tree ts) (serial_of (env y)) (s ∷ []) n h.0).0 h.2))) plan pl P k r
 
 pub unsigned_law : UnsignedLaw
-unsigned_law core good plan pl P k r top below o d env = from_state core good (λ plan P k. PointAt plan P k (top ++ Rest (Then (Off o) d) env ∷ below) → In (Offed o (serial_of (env o.base))) (so_far plan P k) → ⊥)
+unsigned_law core good plan pl P k r top below o d env = from_state core good (λ plan P k. PointAt plan P k (top ++ Rest (Then (SignOff o) d) env ∷ below) → In (Offed o (serial_of (env o.base))) (so_far plan P k) → ⊥)
     (λ ts k st i. over.off_unsigned core good ts k top below o d env st i) plan pl P k r

@@ -3,12 +3,12 @@ use Rattle.std.proofs.Common.{◌≡◌, Bool, true, false, List, [], ◌∷◌,
 use Rattle.std.proofs.lemmas.List.{append-nil}
 use Rattle.gcx_model.specs.Tree.{Node, serial_of, Tree, is_closed}
 use Rattle.gcx_model.specs.Paths.{matches}
-use Rattle.gcx_model.specs.Core.{ItemTree, Write, Copy, For, If, Off, BodyTree, Nil, Then}
+use Rattle.gcx_model.specs.Core.{ItemTree, Write, Copy, For, If, SignOff, BodyTree, Nil, Then}
 use Rattle.gcx_model.specs.declared.truth.Truth.{Truth}
 use Rattle.gcx_model.specs.declared.truth.Truth.TheVariants.{True, False, Unknown}
 use Rattle.gcx_model.specs.Truth.{Env, bind_var, truth}
 use Rattle.gcx_model.specs.Run.{Action, Wrote, Offed, Out, loop, seq, seq_if, choose, run_item, run}
-use Rattle.placed_laws.proofs.PointForms.{Frame, Rest, Round, Part, IsPoint, Begins, Past, InLoop, InYes, InNo, InCopy, body_at}
+use Rattle.placed_laws.proofs.PointForms.{Frame, Rest, LoopRound, CopyPart, IsPoint, Begins, PastItem, InLoop, InYes, InNo, InCopy, body_at}
 
 -- a list cut in two, of a list that comes in two pieces: the cut lies in the one or in the other
 pub data Cut {X : Type 0} (xs ys before rest : List X) : Type 0 where
@@ -89,7 +89,7 @@ module _ (P : Tree) where
   begins d env before e = (Rest d env ∷ [], subst (λ (z : List Action). IsPoint P d env z (Rest d env ∷ [])) (sym e) Begins)
 
   behind_item : (i : ItemTree) (d : BodyTree) (env : Env) (before c : List Action) → (run_item i env P).done ≡ true → before ≡ (run_item i env P).acts ++ c → Point d env c → Point (Then i d) env before
-  behind_item i d env before c dn e p = (p.0, subst (λ (z : List Action). IsPoint P (Then i d) env z p.0) (sym e) (Past dn p.1))
+  behind_item i d env before c dn e p = (p.0, subst (λ (z : List Action). IsPoint P (Then i d) env z p.0) (sym e) (PastItem dn p.1))
 
   behind_one : (i : ItemTree) (d : BodyTree) (env : Env) (before : List Action) (x : Action) (r : List Action) → (run_item i env P).done ≡ true → (run_item i env P).acts ≡ x ∷ [] → x ∷ [] ≡ before ++ r → Point (Then i d) env before
   behind_one i d env before x r dn e f = elim (one_action before x r f) [
@@ -100,8 +100,8 @@ module _ (P : Tree) where
   mutual
     in_item : (i : ItemTree) (d : BodyTree) (env : Env) (before r : List Action) → (run_item i env P).acts ≡ before ++ r → Point (Then i d) env before
     in_item (Write b) d env before r e = behind_one (Write b) d env before (Wrote b) r refl refl e
-    in_item (Off o) d env before r e = behind_one (Off o) d env before (Offed o (serial_of (env o.base))) r refl refl e
-    in_item (Copy x) d env before r e = (Part x env (length before) ∷ Rest d env ∷ [], InCopy before r e)
+    in_item (SignOff o) d env before r e = behind_one (SignOff o) d env before (Offed o (serial_of (env o.base))) r refl refl e
+    in_item (Copy x) d env before r e = (CopyPart x env (length before) ∷ Rest d env ∷ [], InCopy before r e)
     in_item (If c a b) d env before r e = go (λ f. point a env before r f) (λ f. point b env before r f) (truth c env P) refl e
       where
         go : ((run a env P).acts ≡ before ++ r → Point a env before) → ((run b env P).acts ≡ before ++ r → Point b env before) → (k : Truth) → truth c env P ≡ k → (choose k (run a env P) (run b env P)).acts ≡ before ++ r → Point (Then (If c a b) d) env before
@@ -114,8 +114,8 @@ module _ (P : Tree) where
         go ih (Outside g) = begins (Then (For x y s e) d) env before g
         go ih (Within pre n post c rest' g dn h k) =
             let p = ih n c rest' k in (
-              p.0 ++ Round x y s e env n ∷ Rest d env ∷ [],
-              subst (λ (z : List Action). IsPoint P (Then (For x y s e) d) env z (p.0 ++ Round x y s e env n ∷ Rest d env ∷ [])) (sym h) (InLoop pre n post g dn p.1),
+              p.0 ++ LoopRound x y s e env n ∷ Rest d env ∷ [],
+              subst (λ (z : List Action). IsPoint P (Then (For x y s e) d) env z (p.0 ++ LoopRound x y s e env n ∷ Rest d env ∷ [])) (sym h) (InLoop pre n post g dn p.1),
             )
 
     -- where the run's actions are cut in two, there is a point behind the first part

@@ -5,11 +5,11 @@ use Rattle.std.proofs.lemmas.List.{append-nil, length-append}
 use Rattle.std.proofs.lemmas.Bool.{and_parts, and_from, false≢true}
 use Rattle.gcx_base.specs.declared.kind.Kind.{Kind}
 use Rattle.gcx_base.specs.declared.kind.Kind.TheVariants.{Document, Element, Text}
-use Rattle.gcx_model.specs.Tree.{Node, serial_of, kind_of, Tree, Token, grow, is_closed}
+use Rattle.gcx_model.specs.Tree.{Node, serial_of, kind_of, Tree, TreeToken, grow, is_closed}
 use Rattle.gcx_model.specs.Paths.{any, hits, matches}
 use Rattle.gcx_base.specs.declared.steps.Step.{Step}
-use Rattle.gcx_model.specs.Values.{Value, Bytes, compare}
-use Rattle.gcx_model.specs.Core.{CondTree, Always, Exists, Compare, Not, All, Any, CondTrees, no_cond, more_conds, OperandTree, Path, Str, Num, ItemTree, Write, Copy, For, If, Off, BodyTree, Nil, Then}
+use Rattle.gcx_model.specs.Values.{ComparedValue, Bytes, compare}
+use Rattle.gcx_model.specs.Core.{CondTree, Always, Exists, Compare, Not, AllOf, AnyOf, CondTrees, no_cond, more_conds, OperandTree, Path, Str, Num, ItemTree, Write, Copy, For, If, SignOff, BodyTree, Nil, Then}
 use Rattle.gcx_model.specs.declared.truth.Truth.{Truth}
 use Rattle.gcx_model.specs.declared.truth.Truth.TheVariants.{True, False, Unknown}
 use Rattle.gcx_model.specs.Truth.{node_value, Env, bind_var, settled_values, is_over, settle, negate, both, either, truth, truth_all, truth_any}
@@ -102,7 +102,7 @@ choose_mono k k' a a' b b' (Kept e) h j = subst (λ (x : Truth). Before (choose 
     go Unknown = Same refl
 choose_mono k k' a a' b b' (Learnt e) h j = subst (λ (x : Truth). Before (choose x a b) (choose k' a' b')) (sym e) (idle_before _)
 
-module _ (t : Token) (P : Tree) (w : Grown P) where
+module _ (t : TreeToken) (P : Tree) (w : Grown P) where
   -- bound to nodes of P
   abbrev pub Bound : Env → Type 0
   Bound env = (x : ℕ) → serial_of (env x) < length P.nodes
@@ -155,7 +155,7 @@ module _ (t : Token) (P : Tree) (w : Grown P) where
   map_same f g [] h = refl
   map_same f g (x ∷ xs) h = rw (h x (inl refl), map_same f g xs (λ y i. h y (inr i))) refl
 
-  values_more : (env : Env) → Bound env → (o : OperandTree) (v : Value) → In v (settled_values P env o) → In v (settled_values (grow t P) env o)
+  values_more : (env : Env) → Bound env → (o : OperandTree) (v : ComparedValue) → In v (settled_values P env o) → In v (settled_values (grow t P) env o)
   values_more env b (Path x tail) v h =
       let r = In-map (node_value P) v (filter (is_closed P) (matches P (serial_of (env x)) tail)) h in
       let q = In-filter (is_closed P) r.0 (matches P (serial_of (env x)) tail) r.1 in
@@ -186,11 +186,11 @@ module _ (t : Token) (P : Tree) (w : Grown P) where
   over_stays env b (Str s) c = refl
   over_stays env b (Num l) c = refl
 
-  pair_more : (r : Value → Value → Bool) (vs vs' ws ws' : List Value) → ((v : Value) → In v vs → In v vs') → ((v : Value) → In v ws → In v ws') → some_pair r vs ws ≡ true → some_pair r vs' ws' ≡ true
+  pair_more : (r : ComparedValue → ComparedValue → Bool) (vs vs' ws ws' : List ComparedValue) → ((v : ComparedValue) → In v vs → In v vs') → ((v : ComparedValue) → In v ws → In v ws') → some_pair r vs ws ≡ true → some_pair r vs' ws' ≡ true
   pair_more r vs vs' ws ws' h j e =
-      let p = any_in (λ (v : Value). any (r v) ws) vs e in
+      let p = any_in (λ (v : ComparedValue). any (r v) ws) vs e in
       let q = any_in (r p.0) ws p.2 in
-      any_from (λ (v : Value). any (r v) ws') p.0 vs' (h p.0 p.1) (any_from (r p.0) q.0 ws' (j q.0 q.1) q.2)
+      any_from (λ (v : ComparedValue). any (r v) ws') p.0 vs' (h p.0 p.1) (any_from (r p.0) q.0 ws' (j q.0 q.1) q.2)
 
   any_more : {X : Type 0} (xs ys : List X) → is_any xs ≡ true → is_any (xs ++ ys) ≡ true
   any_more [] ys e = absurd (false≢true e)
@@ -212,8 +212,8 @@ module _ (t : Token) (P : Tree) (w : Grown P) where
           and_from _ _ (over_stays env b l d.0) (over_stays env b s d.1),
         ))
     truth_firmer (Not c) env b = negate_firmer _ _ (truth_firmer c env b)
-    truth_firmer (All cs) env b = all_firmer cs env b
-    truth_firmer (Any cs) env b = any_firmer cs env b
+    truth_firmer (AllOf cs) env b = all_firmer cs env b
+    truth_firmer (AnyOf cs) env b = any_firmer cs env b
 
     all_firmer : (cs : CondTrees) (env : Env) → Bound env → Firmer (truth_all cs env P) (truth_all cs env (grow t P))
     all_firmer no_cond env b = Kept refl
@@ -234,7 +234,7 @@ module _ (t : Token) (P : Tree) (w : Grown P) where
         loop_grows (λ n. run d (bind_var env x n) P) (λ n. run d (bind_var env x n) (grow t P)) (env y) (s ∷ []) (b y)
         (λ m i. run_grows d (bind_var env x m) (Bound-bind env x m b (Matches-in P (serial_of (env y)) (s ∷ []) m i).0))
     item_grows (If c d e) env b = choose_mono _ _ _ _ _ _ (truth_firmer c env b) (run_grows d env b) (run_grows e env b)
-    item_grows (Off o) env b = Same refl
+    item_grows (SignOff o) env b = Same refl
 
     pub run_grows : (d : BodyTree) (env : Env) → Bound env → Before (run d env P) (run d env (grow t P))
     run_grows Nil env b = Same refl

@@ -6,7 +6,7 @@ use Rattle.gcx_model.specs.Tree.{Node, serial_of, kind_of, within, Tree, is_clos
 use Rattle.gcx_base.specs.declared.steps.Step.{Step}
 use Rattle.gcx_model.specs.Paths.{hits, matches, head, value, text_of}
 use Rattle.gcx_model.specs.Values.{Bytes}
-use Rattle.gcx_model.specs.Core.{CondTree, Always, Exists, Compare, Not, All, Any, CondTrees, no_cond, more_conds, OperandTree, Path, Str, Num}
+use Rattle.gcx_model.specs.Core.{CondTree, Always, Exists, Compare, Not, AllOf, AnyOf, CondTrees, no_cond, more_conds, OperandTree, Path, Str, Num}
 use Rattle.gcx_model.specs.Truth.{Env, node_value, settled_values, is_over, settle, negate, truth, truth_all, truth_any}
 use Rattle.gcx_model.specs.Answer.{is_any, children, child_step}
 use Rattle.gcx_model.specs.Run.{Out, loop, copy, copy_with}
@@ -84,8 +84,8 @@ module _ (P : Tree) (w : Grown P) (keep : Node → Bool) where
         ap (λ z. settle z (is_closed P (env x))) (ap is_any (matches_pruned n tail) ∙ any_kept (matches P n tail) (λ m e. h m (Matches-in P n tail m (first_in (matches P n tail) m e)).0 e))
     truth_kept (Compare l r s) env h = rw (values_kept env l (λ m i k. h m i (inl k)), values_kept env s (λ m i k. h m i (inr k)), over_kept env l, over_kept env s) refl
     truth_kept (Not c) env h = ap negate (truth_kept c env h)
-    truth_kept (All cs) env h = all_kept cs env h
-    truth_kept (Any cs) env h = some_kept cs env h
+    truth_kept (AllOf cs) env h = all_kept cs env h
+    truth_kept (AnyOf cs) env h = some_kept cs env h
 
     all_kept : (cs : CondTrees) (env : Env) → Kept (Conds_need P env cs) → truth_all cs env (pruned keep P) ≡ truth_all cs env P
     all_kept no_cond env h = refl

@@ -1,9 +1,9 @@
 -- What is the same over the same nodes, where other ones of them are open.
 use Rattle.std.proofs.Common.{◌≡◌, ℕ, zero, suc, ◌<◌, true, not, ◌||◌, List, [], ◌∷◌, length, map, refl, sym, ◌∙◌, ap, inl, inr, arith, Some, None, Option}
 use Rattle.std.proofs.lemmas.Bool.{eq-eqb, ne_eqb}
-use Rattle.gcx_model.specs.Tree.{Node, Root, Under, serial_of, kind_of, within, Tree, Token, Start, Chars, End, grow_at, is_open_at, is_closed}
+use Rattle.gcx_model.specs.Tree.{Node, Root, Under, serial_of, kind_of, within, Tree, TreeToken, Start, Chars, End, grow_at, is_open_at, is_closed}
 use Rattle.gcx_model.specs.Paths.{matches}
-use Rattle.gcx_model.specs.Core.{CondTree, Always, Exists, Compare, Not, All, Any, CondTrees, no_cond, more_conds, OperandTree, Path, Str, Num, First, RoleRowTree, Whole}
+use Rattle.gcx_model.specs.Core.{CondTree, Always, Exists, Compare, Not, AllOf, AnyOf, CondTrees, no_cond, more_conds, OperandTree, Path, Str, Num, First, RoleRowTree, Whole}
 use Rattle.gcx_model.specs.Truth.{Env, node_value, settled_values, is_over, settle, negate, truth, truth_all, truth_any}
 use Rattle.gcx_model.specs.Roles.{operand_rows, cond_rows, conds_rows}
 use Rattle.gcx_model.specs.Needs.{Operand_needs, Cond_needs, Conds_need}
@@ -51,8 +51,8 @@ module _ (P : Tree) (at : Option Node) where
       over_same env s (λ q i. r q (In-right q (operand_rows l) (operand_rows s) i)),
     ) refl
     truth_same (Not c) env r h = ap negate (truth_same c env r h)
-    truth_same (All cs) env r h = all_same cs env r h
-    truth_same (Any cs) env r h = some_same cs env r h
+    truth_same (AllOf cs) env r h = all_same cs env r h
+    truth_same (AnyOf cs) env r h = some_same cs env r h
 
     all_same : (cs : CondTrees) (env : Env) → SameRows env (conds_rows cs) → ((m : Node) → In m P.nodes → Conds_need P env cs m → IsSame m) → truth_all cs env (open_as P at) ≡ truth_all cs env P
     all_same no_cond env r h = refl
@@ -78,7 +78,7 @@ module _ (P : Tree) (at : Option Node) where
       (λ m j. let q = in_n m j in copy_same w most m q.0 (λ a k b. h a k (within_trans P w (serial_of n) m a q.0 k q.1 b))))
 
 -- what a token adds has the next number
-pub added_serial : (at : Option Node) (t : Token) (P : Tree) (m : Node) → In m (added_at at t P) → serial_of m ≡ length P.nodes
+pub added_serial : (at : Option Node) (t : TreeToken) (P : Tree) (m : Node) → In m (added_at at t P) → serial_of m ≡ length P.nodes
 added_serial None t P m i = absurd i
 added_serial (Some p) (Start name) P m (inl e) = ap serial_of (sym e)
 added_serial (Some p) (Start name) P m (inr i) = absurd i
@@ -87,7 +87,7 @@ added_serial (Some p) (Chars b) P m (inr i) = absurd i
 added_serial (Some p) End P m i = absurd i
 
 -- it is one node at most
-pub added_one : (at : Option Node) (t : Token) (P : Tree) (m n : Node) → In m (added_at at t P) → In n (added_at at t P) → m ≡ n
+pub added_one : (at : Option Node) (t : TreeToken) (P : Tree) (m n : Node) → In m (added_at at t P) → In n (added_at at t P) → m ≡ n
 added_one None t P m n i j = absurd i
 added_one (Some p) (Start name) P m n (inl e) (inl f) = sym e ∙ f
 added_one (Some p) (Start name) P m n (inl e) (inr j) = absurd j
@@ -98,7 +98,7 @@ added_one (Some p) (Chars b) P m n (inr i) j = absurd i
 added_one (Some p) End P m n i j = absurd i
 
 -- where it adds a node, those that were there are open where they were
-pub open_kept : (at : Option Node) (t : Token) (P : Tree) (m : Node) → In m (added_at at t P) → (k : ℕ) → k < length P.nodes → is_open_at (grow_at at t P).at k ≡ is_open_at at k
+pub open_kept : (at : Option Node) (t : TreeToken) (P : Tree) (m : Node) → In m (added_at at t P) → (k : ℕ) → k < length P.nodes → is_open_at (grow_at at t P).at k ≡ is_open_at at k
 open_kept None t P m i k l = absurd i
 open_kept (Some p) (Start name) P m i k l = ap (λ b. b || within k p) (ne_eqb (length P.nodes) k (λ e. omega arith))
 open_kept (Some p) (Chars b) P m i k l = refl

@@ -3,10 +3,10 @@ use Rattle.std.proofs.Common.{◌≡◌, ℕ, ◌<◌, ◌≤◌, Bool, true, fa
 use Rattle.std.specs.List.{filter}
 use Rattle.std.proofs.lemmas.Bool.{or_cases, or_left, or_right, or_from, and_parts, and_from, true≢false, false≢true, ne_eqb, not-true, false_from_ne_true, cases_Bool}
 use Rattle.std.proofs.Math.Bool.{or-false}
-use Rattle.gcx_model.specs.Tree.{Node, Root, Under, serial_of, above, within, Tree, Token, Start, Chars, End, grow, is_open_at}
+use Rattle.gcx_model.specs.Tree.{Node, Root, Under, serial_of, above, within, Tree, TreeToken, Start, Chars, End, grow, is_open_at}
 use Rattle.gcx_model.specs.Paths.{any, all, hits, matches, first, head}
 use Rattle.gcx_base.specs.declared.steps.Step.{Step}
-use Rattle.gcx_model.specs.Core.{RoleKind, Own, First, Whole, OffTree, RoleRowTree}
+use Rattle.gcx_model.specs.Core.{RoleTarget, Own, First, Whole, OffTree, RoleRowTree}
 use Rattle.gcx_model.specs.Run.{Action}
 use Rattle.tree_laws.proofs.Reading.{Reading, given, signed, taken, live_some, is_live, is_held, held}
 use Rattle.gcx_model.specs.Held.{is_node, gives}
@@ -40,12 +40,12 @@ pub all_from : {X : Type 0} (p : X → Bool) (xs : List X) → ((x : X) → In x
 all_from p [] h = refl
 all_from p (y ∷ ys) h = and_from _ _ (h y (inl refl)) (all_from p ys (λ x i. h x (inr i)))
 
-module _ (t : Token) (P : Tree) (w : Grown P) where
+module _ (t : TreeToken) (P : Tree) (w : Grown P) where
   -- a new node has the next number
   pub new_serial : (j : Node) → In j (added t P) → serial_of j ≡ length P.nodes
   new_serial j i = go P.at t i
     where
-      go : (at : Option Node) (t : Token) → In j (added_at at t P) → serial_of j ≡ length P.nodes
+      go : (at : Option Node) (t : TreeToken) → In j (added_at at t P) → serial_of j ≡ length P.nodes
       go None t i = absurd i
       go (Some p) (Start name) (inl e) = ap serial_of (sym e)
       go (Some p) (Start name) (inr i) = absurd i
@@ -82,7 +82,7 @@ module _ (t : Token) (P : Tree) (w : Grown P) where
           false≢true (sym (no_hits_new k tail x q.0 l) ∙ q.1)
 
   -- the way in which a node is given a role is final
-  pub gives_same : (m : ℕ) (rel tail : List Step) (k : RoleKind) (n : Node) → In n P.nodes → gives (grow t P) m rel tail k n ≡ gives P m rel tail k n
+  pub gives_same : (m : ℕ) (rel tail : List Step) (k : RoleTarget) (n : Node) → In n P.nodes → gives (grow t P) m rel tail k n ≡ gives P m rel tail k n
   gives_same m rel tail Own n i = refl
   gives_same m rel tail Whole n i = refl
   gives_same m rel tail First n i =
@@ -94,7 +94,7 @@ module _ (t : Token) (P : Tree) (w : Grown P) where
       ∙ (or-false _
       ∙ any_same (λ (j : Node). is_node (serial_of n) (first (grow t P) (serial_of j) tail)) (λ (j : Node). is_node (serial_of n) (first P (serial_of j) tail)) (matches P m rel) (λ j q. first_old n (serial_of j) tail i))))
 
-  pub gives_new : (m : ℕ) (rel tail : List Step) (k : RoleKind) (n : Node) → In n P.nodes → length P.nodes ≤ m → gives (grow t P) m rel tail k n ≡ false
+  pub gives_new : (m : ℕ) (rel tail : List Step) (k : RoleTarget) (n : Node) → In n P.nodes → length P.nodes ≤ m → gives (grow t P) m rel tail k n ≡ false
   gives_new m rel tail Own n i l = no_hits_new m rel n i l
   gives_new m rel tail Whole n i l = any_none (hits m (rel ++ tail)) (above n) (λ j q. no_hits_new m (rel ++ tail) j (above_in P w n j i q) l)
   gives_new m rel tail First n i l = gives_same m rel tail First n i ∙ any_none (λ (j : Node). is_node (serial_of n) (first P (serial_of j) tail)) (matches P m rel) (λ j q.

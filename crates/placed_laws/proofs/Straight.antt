@@ -3,10 +3,10 @@ use Rattle.std.proofs.Common.{◌≡◌, ℕ, ◌≤◌, Bool, true, false, cond
 use Rattle.std.proofs.lemmas.Bool.{and_parts, and_from, false≢true, eqb-true, eq-eqb}
 use Rattle.gcx_base.specs.declared.steps.Step.{Step}
 use Rattle.gcx_model.specs.Members.{In}
-use Rattle.gcx_model.specs.Core.{Write, Copy, For, If, Off, BodyTree, Nil, Then}
+use Rattle.gcx_model.specs.Core.{Write, Copy, For, If, SignOff, BodyTree, Nil, Then}
 use Rattle.gcx_model.specs.Variables.{Var, is_child, all_child, one_desc, is_straight, var_of, var_tree, path_in, straight_in, fsa_in, item_vars, vars}
 use Rattle.gcx_model.specs.Cores.{BodyIn, Good}
-use Rattle.placed_laws.specs.LoopRules.{BodyOf, whole, behind, inner, this_side, other_side, LoopIn, VariablesOfLoops, descents, PathByLoop, StraightByLoop, FsaByLoop}
+use Rattle.placed_laws.specs.LoopRules.{BodyOf, whole, after_item, inner, this_side, other_side, LoopIn, VariablesOfLoops, descents, PathByLoop, StraightByLoop, FsaByLoop}
 use Rattle.tree_laws.proofs.Lists.{In-left, In-right, In-append}
 use Rattle.placed_laws.proofs.CorePlans.{Fits, good_fits, good_zero}
 
@@ -17,19 +17,19 @@ Placed_loop core x = (u y : ℕ) × (s : Step) × LoopIn core u x y s
 
 loop_of : (core d : BodyTree) (u : ℕ) → BodyOf core u d → (x : ℕ) → In x (vars d) → Placed_loop core x
 loop_of core Nil u b x i = absurd i
-loop_of core (Then (Write t) d) u b x i = loop_of core d u (behind b) x i
-loop_of core (Then (Copy z) d) u b x i = loop_of core d u (behind b) x i
-loop_of core (Then (Off o) d) u b x i = loop_of core d u (behind b) x i
+loop_of core (Then (Write t) d) u b x i = loop_of core d u (after_item b) x i
+loop_of core (Then (Copy z) d) u b x i = loop_of core d u (after_item b) x i
+loop_of core (Then (SignOff o) d) u b x i = loop_of core d u (after_item b) x i
 loop_of core (Then (For z y s e) d) u b x (inl f) = (u, y, s, (e, d, subst (λ (k : ℕ). BodyOf core u (Then (For k y s e) d)) f b))
-loop_of core (Then (For z y s e) d) u b x (inr i) = elim (In-append x (vars e) (vars d) i) [ inl j ↦ loop_of core e z (inner b) x j | inr j ↦ loop_of core d u (behind b) x j ]
+loop_of core (Then (For z y s e) d) u b x (inr i) = elim (In-append x (vars e) (vars d) i) [ inl j ↦ loop_of core e z (inner b) x j | inr j ↦ loop_of core d u (after_item b) x j ]
 loop_of core (Then (If c a e) d) u b x i = elim (In-append x (vars a ++ vars e) (vars d) i) [
   | inl j ↦ elim (In-append x (vars a) (vars e) j) [ inl k ↦ loop_of core a u (this_side b) x k | inr k ↦ loop_of core e u (other_side b) x k ]
-  | inr j ↦ loop_of core d u (behind b) x j
+  | inr j ↦ loop_of core d u (after_item b) x j
 ]
 
 vars_in : (core : BodyTree) (u : ℕ) (d : BodyTree) → BodyOf core u d → (x : ℕ) → In x (vars d) → In x (vars core)
 vars_in core u d whole x i = i
-vars_in core u d (behind {i = t} h) x i = vars_in core _ _ h x (In-right x (item_vars t) (vars d) i)
+vars_in core u d (after_item {i = t} h) x i = vars_in core _ _ h x (In-right x (item_vars t) (vars d) i)
 vars_in core u d (inner {d = rest} h) x i = vars_in core _ _ h x (inr (In-left x (vars d) (vars rest) i))
 vars_in core u d (this_side {b = other} {d = rest} h) x i = vars_in core _ _ h x (In-left x (vars d ++ vars other) (vars rest) (In-left x (vars d) (vars other) i))
 vars_in core u d (other_side {a = this} {d = rest} h) x i = vars_in core _ _ h x (In-left x (vars this ++ vars d) (vars rest) (In-right x (vars this) (vars d) i))
@@ -47,7 +47,7 @@ module _ (core : BodyTree) (good : Good core) where
 
   fitting : (u : ℕ) (d : BodyTree) → BodyOf core u d → Fitting u d
   fitting u d whole = (true, 0 ∷ [], good.inside, λ e. good_fits core good)
-  fitting u d (behind h) = let f = fitting _ _ h in (f.0, f.1, f.2.1, λ e. (f.3 e).1)
+  fitting u d (after_item h) = let f = fitting _ _ h in (f.0, f.1, f.2.1, λ e. (f.3 e).1)
   fitting u d (inner {x = x} h) = let f = fitting _ _ h in (f.0, x ∷ f.1, f.2.0.2, λ e. (f.3 e).0.1)
   fitting u d (this_side h) = let f = fitting _ _ h in (false, f.1, f.2.0.1, λ e. absurd (false≢true e))
   fitting u d (other_side h) = let f = fitting _ _ h in (false, f.1, f.2.0.2, λ e. absurd (false≢true e))

@@ -9,7 +9,7 @@ use Rattle.gcx_model.specs.declared.truth.Truth.TheVariants.{True, False}
 use Rattle.gcx_model.specs.Truth.{Env, bind_var, truth}
 use Rattle.gcx_model.specs.Run.{Action, Out, copy, idle, loop, seq, choose, run_item, run}
 use Rattle.tree_laws.proofs.Matches.{Grown, Rising, Rising-filter}
-use Rattle.placed_laws.proofs.PointForms.{Frame, Rest, Round, Part, IsPoint, Begins, Past, InLoop, InYes, InNo, InCopy, body_at, later, later_is, resume, after, seq-done, seq-idle, loop-append}
+use Rattle.placed_laws.proofs.PointForms.{Frame, Rest, LoopRound, CopyPart, IsPoint, Begins, PastItem, InLoop, InYes, InNo, InCopy, body_at, later, later_is, resume, after, seq-done, seq-idle, loop-append}
 use Rattle.placed_laws.proofs.Steps.{has_top, front, cons_same, compose}
 
 -- the actions of a body that is over
@@ -22,7 +22,7 @@ over P w d env before v st =
 pub data Inner (P : Tree) : BodyTree → Env → List Action → Frame → List Frame → Type 0 where
   Branch : {i : ItemTree} {rest : BodyTree} {env : Env} {acts : List Action} → (run_item i env P).done ≡ true → (run_item i env P).acts ≡ acts → Inner P (Then i rest) env acts (Rest rest env) []
   Turned : {x y : ℕ} {s : Step} {e rest : BodyTree} {env : Env} {acts : List Action} {n : Node} → (pre post : List Node) → matches P (serial_of (env y)) (s ∷ []) ≡ pre ++ n ∷ post → (loop (body_at e x env P) pre true).done ≡ true → (body_at e x env P n).done ≡ true
-      → (loop (body_at e x env P) pre true).acts ++ (body_at e x env P n).acts ≡ acts → Inner P (Then (For x y s e) rest) env acts (Round x y s e env n) (Rest rest env ∷ [])
+      → (loop (body_at e x env P) pre true).acts ++ (body_at e x env P n).acts ≡ acts → Inner P (Then (For x y s e) rest) env acts (LoopRound x y s e env n) (Rest rest env ∷ [])
 
 -- the point seen from there
 pub record View (P : Tree) (d : BodyTree) (env : Env) (before : List Action) (g : Frame) (tail : List Frame) : Type 0 where
@@ -73,10 +73,10 @@ view P w d env before fs Begins v g tail e = absurd (nothing_more (cons_same (Re
   where
     nothing_more : [] ≡ g ∷ tail → ⊥
     nothing_more e = cc
-view P w d env before fs (Past {i = i} {d = rest} {before = before'} dn st) v g tail e =
+view P w d env before fs (PastItem {i = i} {d = rest} {before = before'} dn st) v g tail e =
     subst (λ (z : List Frame). View P (Then i rest) env ((run_item i env P).acts ++ before') g z) (append-nil tail)
     (wider P rest (Then i rest) env env before' g tail [] (run_item i env P).acts (view P w rest env before' fs st v g tail e)
-    (λ a top h. subst (λ (z : List Frame). IsPoint P (Then i rest) env ((run_item i env P).acts ++ a) z) (sym (append-nil top)) (Past dn h)))
+    (λ a top h. subst (λ (z : List Frame). IsPoint P (Then i rest) env ((run_item i env P).acts ++ a) z) (sym (append-nil top)) (PastItem dn h)))
 view P w d env before fs (InYes {c = c} {a = a} {b = b} {d = rest} {fs = fs'} t st) v g tail e =
     let r = has_top P a env before fs' st in
     let q = front (Rest Nil v) r.0 fs' (Rest rest env ∷ []) (g ∷ tail) r.1 r.2 e in
@@ -115,52 +115,52 @@ view P w d env before fs (InNo {c = c} {a = a} {b = b} {d = rest} {fs = fs'} t s
         (λ acts top k. InNo t k))
 view P w d env before fs (InLoop {x = x} {y = y} {s = s} {e = b} {d = rest} {before = before'} {fs = fs'} pre n post m dn st) v g tail e =
     let r = has_top P b (bind_var env x n) before' fs' st in
-    let q = front (Rest Nil v) r.0 fs' (Round x y s b env n ∷ Rest rest env ∷ []) (g ∷ tail) r.1 r.2 e in
+    let q = front (Rest Nil v) r.0 fs' (LoopRound x y s b env n ∷ Rest rest env ∷ []) (g ∷ tail) r.1 r.2 e in
     go r.1 q.0 q.1 (λ tail' h. view P w b (bind_var env x n) before' fs' st v g tail' h)
   where
     f : Node → Out
     f = body_at b x env P
 
-    go : (tail' : List Frame) → fs' ≡ Rest Nil v ∷ tail' → g ∷ tail ≡ tail' ++ Round x y s b env n ∷ Rest rest env ∷ [] → ((tail'' : List Frame) → fs' ≡ Rest Nil v ∷ g ∷ tail'' → View P b (bind_var env x n) before' g tail'') → View P (Then (For x y s b) rest) env ((loop (body_at b x env P) pre true).acts ++ before') g tail
+    go : (tail' : List Frame) → fs' ≡ Rest Nil v ∷ tail' → g ∷ tail ≡ tail' ++ LoopRound x y s b env n ∷ Rest rest env ∷ [] → ((tail'' : List Frame) → fs' ≡ Rest Nil v ∷ g ∷ tail'' → View P b (bind_var env x n) before' g tail'') → View P (Then (For x y s b) rest) env ((loop (body_at b x env P) pre true).acts ++ before') g tail
     go [] are more ih =
-        let q = cons_same g (Round x y s b env n) tail (Rest rest env ∷ []) more in
+        let q = cons_same g (LoopRound x y s b env n) tail (Rest rest env ∷ []) more in
         let o = over P w b (bind_var env x n) before' v (subst (λ (z : List Frame). IsPoint P b (bind_var env x n) before' z) are st) in
         subst (λ (z : Frame). View P (Then (For x y s b) rest) env ((loop (body_at b x env P) pre true).acts ++ before') z tail) (sym q.0)
-        (subst (λ (z : List Frame). View P (Then (For x y s b) rest) env ((loop (body_at b x env P) pre true).acts ++ before') (Round x y s b env n) z) (sym q.1)
-        (view_here P (Then (For x y s b) rest) env ((loop (body_at b x env P) pre true).acts ++ before') (Round x y s b env n) (Rest rest env ∷ [])
+        (subst (λ (z : List Frame). View P (Then (For x y s b) rest) env ((loop (body_at b x env P) pre true).acts ++ before') (LoopRound x y s b env n) z) (sym q.1)
+        (view_here P (Then (For x y s b) rest) env ((loop (body_at b x env P) pre true).acts ++ before') (LoopRound x y s b env n) (Rest rest env ∷ [])
         (Turned pre post m dn o.0 (ap (λ z. (loop (body_at b x env P) pre true).acts ++ z) o.1))))
     go (h ∷ tail') are more ih =
-        let q = cons_same g h tail (tail' ++ Round x y s b env n ∷ Rest rest env ∷ []) more in
+        let q = cons_same g h tail (tail' ++ LoopRound x y s b env n ∷ Rest rest env ∷ []) more in
         subst (λ (z : List Frame). View P (Then (For x y s b) rest) env ((loop (body_at b x env P) pre true).acts ++ before') g z) (sym q.1)
-        (wider P b (Then (For x y s b) rest) (bind_var env x n) env before' g tail' (Round x y s b env n ∷ Rest rest env ∷ []) (loop (body_at b x env P) pre true).acts (ih tail' (are ∙ ap (λ (z : Frame). Rest Nil v ∷ z ∷ tail') (sym q.0)))
+        (wider P b (Then (For x y s b) rest) (bind_var env x n) env before' g tail' (LoopRound x y s b env n ∷ Rest rest env ∷ []) (loop (body_at b x env P) pre true).acts (ih tail' (are ∙ ap (λ (z : Frame). Rest Nil v ∷ z ∷ tail') (sym q.0)))
         (λ acts top k. InLoop pre n post m dn k))
 view P w d env before fs (InCopy {x = x} {d = rest} before' rest' f) v g tail e =
-    absurd (not_rest x env (length before) v (cons_same (Part x env (length before)) (Rest Nil v) (Rest rest env ∷ []) (g ∷ tail) e).0)
+    absurd (not_rest x env (length before) v (cons_same (CopyPart x env (length before)) (Rest Nil v) (Rest rest env ∷ []) (g ∷ tail) e).0)
   where
-    not_rest : (x : ℕ) (env : Env) (k : ℕ) (v : Env) → Part x env k ≡ Rest Nil v → ⊥
+    not_rest : (x : ℕ) (env : Env) (k : ℕ) (v : Env) → CopyPart x env k ≡ Rest Nil v → ⊥
     not_rest x env k v e = cc
 
 -- the matches behind the present one
 abbrev still : Tree → Frame → List Node
 still P (Rest d env) = []
-still P (Round x y s e env n) = later n (matches P (serial_of (env y)) (s ∷ []))
-still P (Part x env k) = []
+still P (LoopRound x y s e env n) = later n (matches P (serial_of (env y)) (s ∷ []))
+still P (CopyPart x env k) = []
 
 abbrev entered : Frame → Node → List Frame
 entered (Rest d env) m = []
-entered (Round x y s e env n) m = Rest e (bind_var env x m) ∷ Round x y s e env m ∷ []
-entered (Part x env k) m = []
+entered (LoopRound x y s e env n) m = Rest e (bind_var env x m) ∷ LoopRound x y s e env m ∷ []
+entered (CopyPart x env k) m = []
 
 -- the round is the last one
 abbrev Ended : Tree → Frame → Type 0
 Ended P (Rest d env) = ⊥
-Ended P (Round x y s e env n) = (later n (matches P (serial_of (env y)) (s ∷ [])) ≡ []) × (is_closed P (env y) ≡ true)
-Ended P (Part x env k) = ⊥
+Ended P (LoopRound x y s e env n) = (later n (matches P (serial_of (env y)) (s ∷ [])) ≡ []) × (is_closed P (env y) ≡ true)
+Ended P (CopyPart x env k) = ⊥
 
 abbrev Is_rest : Frame → Type 0
 Is_rest (Rest d env) = Unit {0}
-Is_rest (Round x y s e env n) = ⊥
-Is_rest (Part x env k) = ⊥
+Is_rest (LoopRound x y s e env n) = ⊥
+Is_rest (CopyPart x env k) = ⊥
 
 acts_to : (P : Tree) (d : BodyTree) (env : Env) (a b : List Action) (fs : List Frame) → a ≡ b → IsPoint P d env a fs → IsPoint P d env b fs
 acts_to P d env a b fs e h = subst (λ (z : List Action). IsPoint P d env z fs) e h
@@ -181,7 +181,7 @@ module _ (P : Tree) (w : Grown P) where
       let f : Node → Out = body_at b x env P in
       let is : post ≡ m ∷ more = sym (post_is (env y) s pre n post mt) ∙ e in
       let l = loop_to f pre n dn dn' in
-      acts_to P d env ((loop f (pre ++ n ∷ []) true).acts ++ []) acts (Rest b (bind_var env x m) ∷ Round x y s b env m ∷ Rest rest env ∷ []) (append-nil _ ∙ (l.1 ∙ a))
+      acts_to P d env ((loop f (pre ++ n ∷ []) true).acts ++ []) acts (Rest b (bind_var env x m) ∷ LoopRound x y s b env m ∷ Rest rest env ∷ []) (append-nil _ ∙ (l.1 ∙ a))
       (InLoop (pre ++ n ∷ []) m more (mt ∙ (ap (λ z. pre ++ n ∷ z) is ∙ sym (append_assoc pre (n ∷ []) (m ∷ more)))) l.0 Begins)
 
   ended : (d : BodyTree) (env : Env) (acts : List Action) (g : Frame) (near : List Frame) → Inner P d env acts g near → Ended P g → IsPoint P d env acts near
@@ -191,29 +191,29 @@ module _ (P : Tree) (w : Grown P) where
       let none : post ≡ [] = sym (post_is (env y) s pre n post mt) ∙ h.0 in
       let l = loop_to f pre n dn dn' in
       let is : run_item (For x y s b) env P ≡ loop f (pre ++ n ∷ []) true = ap (λ z. loop f z (is_closed P (env y))) (mt ∙ ap (λ z. pre ++ n ∷ z) none) ∙ ap (loop f (pre ++ n ∷ [])) h.1 in
-      acts_to P d env ((run_item (For x y s b) env P).acts ++ []) acts near (append-nil _ ∙ (ap (λ (z : Out). z.acts) is ∙ (l.1 ∙ a))) (Past (ap (λ (z : Out). z.done) is ∙ l.0) Begins)
+      acts_to P d env ((run_item (For x y s b) env P).acts ++ []) acts near (append-nil _ ∙ (ap (λ (z : Out). z.acts) is ∙ (l.1 ∙ a))) (PastItem (ap (λ (z : Out). z.done) is ∙ l.0) Begins)
 
   popped : (d : BodyTree) (env : Env) (acts : List Action) (g : Frame) (near : List Frame) → Inner P d env acts g near → Is_rest g → IsPoint P d env acts (g ∷ near)
-  popped d env acts g near (Branch {i = i} dn a) h = acts_to P d env ((run_item i env P).acts ++ []) acts (g ∷ near) (append-nil _ ∙ a) (Past dn Begins)
+  popped d env acts g near (Branch {i = i} dn a) h = acts_to P d env ((run_item i env P).acts ++ []) acts (g ∷ near) (append-nil _ ∙ a) (PastItem dn Begins)
   popped d env acts g near (Turned pre post mt dn dn' a) h = absurd h
 
   -- the next turn of a loop
-  pub next_turn : (d : BodyTree) (env : Env) (before : List Action) (v : Env) (x y : ℕ) (s : Step) (e : BodyTree) (u : Env) (n m : Node) (more : List Node) (tail : List Frame) → IsPoint P d env before (Rest Nil v ∷ Round x y s e u n ∷ tail)
-      → later n (matches P (serial_of (u y)) (s ∷ [])) ≡ m ∷ more → IsPoint P d env before (Rest e (bind_var u x m) ∷ Round x y s e u m ∷ tail)
+  pub next_turn : (d : BodyTree) (env : Env) (before : List Action) (v : Env) (x y : ℕ) (s : Step) (e : BodyTree) (u : Env) (n m : Node) (more : List Node) (tail : List Frame) → IsPoint P d env before (Rest Nil v ∷ LoopRound x y s e u n ∷ tail)
+      → later n (matches P (serial_of (u y)) (s ∷ [])) ≡ m ∷ more → IsPoint P d env before (Rest e (bind_var u x m) ∷ LoopRound x y s e u m ∷ tail)
   next_turn d env before v x y s e u n m more tail st l =
-      let r = view P w d env before _ st v (Round x y s e u n) tail refl in
-      acts_to P d env (r.pre ++ r.acts) before (Rest e (bind_var u x m) ∷ Round x y s e u m ∷ tail) (sym r.before_is)
-      (subst (λ (z : List Frame). IsPoint P d env (r.pre ++ r.acts) (Rest e (bind_var u x m) ∷ Round x y s e u m ∷ z)) (sym r.tail_is)
-      (r.plug r.acts (Rest e (bind_var u x m) ∷ Round x y s e u m ∷ r.near) (turned r.body r.inner_env r.acts (Round x y s e u n) r.near r.inner m more l)))
+      let r = view P w d env before _ st v (LoopRound x y s e u n) tail refl in
+      acts_to P d env (r.pre ++ r.acts) before (Rest e (bind_var u x m) ∷ LoopRound x y s e u m ∷ tail) (sym r.before_is)
+      (subst (λ (z : List Frame). IsPoint P d env (r.pre ++ r.acts) (Rest e (bind_var u x m) ∷ LoopRound x y s e u m ∷ z)) (sym r.tail_is)
+      (r.plug r.acts (Rest e (bind_var u x m) ∷ LoopRound x y s e u m ∷ r.near) (turned r.body r.inner_env r.acts (LoopRound x y s e u n) r.near r.inner m more l)))
 
   -- the end of a loop
-  pub leave_loop : (d : BodyTree) (env : Env) (before : List Action) (v : Env) (x y : ℕ) (s : Step) (e : BodyTree) (u : Env) (n : Node) (tail : List Frame) → IsPoint P d env before (Rest Nil v ∷ Round x y s e u n ∷ tail)
+  pub leave_loop : (d : BodyTree) (env : Env) (before : List Action) (v : Env) (x y : ℕ) (s : Step) (e : BodyTree) (u : Env) (n : Node) (tail : List Frame) → IsPoint P d env before (Rest Nil v ∷ LoopRound x y s e u n ∷ tail)
       → later n (matches P (serial_of (u y)) (s ∷ [])) ≡ [] → is_closed P (u y) ≡ true → IsPoint P d env before tail
   leave_loop d env before v x y s e u n tail st l c =
-      let r = view P w d env before _ st v (Round x y s e u n) tail refl in
+      let r = view P w d env before _ st v (LoopRound x y s e u n) tail refl in
       acts_to P d env (r.pre ++ r.acts) before tail (sym r.before_is)
       (subst (λ (z : List Frame). IsPoint P d env (r.pre ++ r.acts) z) (sym r.tail_is)
-      (r.plug r.acts r.near (ended r.body r.inner_env r.acts (Round x y s e u n) r.near r.inner (l, c))))
+      (r.plug r.acts r.near (ended r.body r.inner_env r.acts (LoopRound x y s e u n) r.near r.inner (l, c))))
 
   -- the end of a branch
   pub leave_branch : (d : BodyTree) (env : Env) (before : List Action) (v : Env) (rest : BodyTree) (u : Env) (tail : List Frame) → IsPoint P d env before (Rest Nil v ∷ Rest rest u ∷ tail) → IsPoint P d env before (Rest rest u ∷ tail)
@@ -225,15 +225,15 @@ module _ (P : Tree) (w : Grown P) where
 
   -- an item that is done at once: a Write, a statement, a loop over no match at a closed node
   pub pass_item : (d : BodyTree) (env : Env) (before : List Action) (i : ItemTree) (rest : BodyTree) (u : Env) (tail : List Frame) → IsPoint P d env before (Rest (Then i rest) u ∷ tail) → (run_item i u P).done ≡ true → IsPoint P d env (before ++ (run_item i u P).acts) (Rest rest u ∷ tail)
-  pass_item d env before i rest u tail st dn = compose P d env before _ st (Then i rest) u tail refl (run_item i u P).acts (Rest rest u ∷ []) (acts_to P (Then i rest) u ((run_item i u P).acts ++ []) (run_item i u P).acts (Rest rest u ∷ []) (append-nil _) (Past dn Begins))
+  pass_item d env before i rest u tail st dn = compose P d env before _ st (Then i rest) u tail refl (run_item i u P).acts (Rest rest u ∷ []) (acts_to P (Then i rest) u ((run_item i u P).acts ++ []) (run_item i u P).acts (Rest rest u ∷ []) (append-nil _) (PastItem dn Begins))
 
   same_acts : (d : BodyTree) (env : Env) (before : List Action) (fs : List Frame) → IsPoint P d env (before ++ []) fs → IsPoint P d env before fs
   same_acts d env before fs h = acts_to P d env (before ++ []) before fs (append-nil before) h
 
   -- the first turn of a loop
   pub enter_loop : (d : BodyTree) (env : Env) (before : List Action) (x y : ℕ) (s : Step) (e rest : BodyTree) (u : Env) (n : Node) (more : List Node) (tail : List Frame) → IsPoint P d env before (Rest (Then (For x y s e) rest) u ∷ tail)
-      → matches P (serial_of (u y)) (s ∷ []) ≡ n ∷ more → IsPoint P d env before (Rest e (bind_var u x n) ∷ Round x y s e u n ∷ Rest rest u ∷ tail)
-  enter_loop d env before x y s e rest u n more tail st m = same_acts d env before _ (compose P d env before _ st (Then (For x y s e) rest) u tail refl [] (Rest e (bind_var u x n) ∷ Round x y s e u n ∷ Rest rest u ∷ []) (InLoop [] n more m refl Begins))
+      → matches P (serial_of (u y)) (s ∷ []) ≡ n ∷ more → IsPoint P d env before (Rest e (bind_var u x n) ∷ LoopRound x y s e u n ∷ Rest rest u ∷ tail)
+  enter_loop d env before x y s e rest u n more tail st m = same_acts d env before _ (compose P d env before _ st (Then (For x y s e) rest) u tail refl [] (Rest e (bind_var u x n) ∷ LoopRound x y s e u n ∷ Rest rest u ∷ []) (InLoop [] n more m refl Begins))
 
   pub enter_yes : (d : BodyTree) (env : Env) (before : List Action) (c : CondTree) (a b rest : BodyTree) (u : Env) (tail : List Frame) → IsPoint P d env before (Rest (Then (If c a b) rest) u ∷ tail) → truth c u P ≡ True → IsPoint P d env before (Rest a u ∷ Rest rest u ∷ tail)
   enter_yes d env before c a b rest u tail st t = same_acts d env before _ (compose P d env before _ st (Then (If c a b) rest) u tail refl [] (Rest a u ∷ Rest rest u ∷ []) (InYes t Begins))
@@ -242,5 +242,5 @@ module _ (P : Tree) (w : Grown P) where
   enter_no d env before c a b rest u tail st t = same_acts d env before _ (compose P d env before _ st (Then (If c a b) rest) u tail refl [] (Rest b u ∷ Rest rest u ∷ []) (InNo t Begins))
 
   -- so many actions of a copy
-  pub enter_copy : (d : BodyTree) (env : Env) (before : List Action) (x : ℕ) (rest : BodyTree) (u : Env) (acts more : List Action) (tail : List Frame) → IsPoint P d env before (Rest (Then (Copy x) rest) u ∷ tail) → (copy (length P.nodes) P (u x)).acts ≡ acts ++ more → IsPoint P d env (before ++ acts) (Part x u (length acts) ∷ Rest rest u ∷ tail)
-  enter_copy d env before x rest u acts more tail st e = compose P d env before _ st (Then (Copy x) rest) u tail refl acts (Part x u (length acts) ∷ Rest rest u ∷ []) (InCopy acts more e)
+  pub enter_copy : (d : BodyTree) (env : Env) (before : List Action) (x : ℕ) (rest : BodyTree) (u : Env) (acts more : List Action) (tail : List Frame) → IsPoint P d env before (Rest (Then (Copy x) rest) u ∷ tail) → (copy (length P.nodes) P (u x)).acts ≡ acts ++ more → IsPoint P d env (before ++ acts) (CopyPart x u (length acts) ∷ Rest rest u ∷ tail)
+  enter_copy d env before x rest u acts more tail st e = compose P d env before _ st (Then (Copy x) rest) u tail refl acts (CopyPart x u (length acts) ∷ Rest rest u ∷ []) (InCopy acts more e)

@@ -2,7 +2,7 @@
 use Rattle.std.proofs.Common.{◌≡◌, ℕ, zero, suc, ◌<◌, Bool, true, false, List, [], ◌∷◌, ◌++◌, length, map, refl, sym, ◌∙◌, ap, subst, inl, inr, ◌⊎◌, arith, Some}
 use Rattle.std.proofs.lemmas.List.{map-append}
 use Rattle.std.proofs.lemmas.Bool.{eqb-true}
-use Rattle.gcx_model.specs.Core.{ItemTree, Write, Copy, For, If, Off, BodyTree, Nil, Then, OffTree, RoleRowTree, PlanTree}
+use Rattle.gcx_model.specs.Core.{ItemTree, Write, Copy, For, If, SignOff, BodyTree, Nil, Then, OffTree, RoleRowTree, PlanTree}
 use Rattle.gcx_model.specs.Variables.{var_tree, vars, item_vars}
 use Rattle.gcx_model.specs.Roles.{roles_of}
 use Rattle.gcx_model.specs.Cores.{BodyIn, Good}
@@ -28,7 +28,7 @@ abbrev mutual
   item_loops (Copy x) = []
   item_loops (For x y s d) = record { var = x; body = d } ∷ loops_in d
   item_loops (If c a b) = loops_in a ++ loops_in b
-  item_loops (Off o) = []
+  item_loops (SignOff o) = []
 
   loops_in : BodyTree → List Loop_body
   loops_in Nil = []
@@ -40,7 +40,7 @@ mutual
   item_loop_vars (Copy x) = refl
   item_loop_vars (For x y s d) = ap (λ z. x ∷ z) (loop_vars d)
   item_loop_vars (If c a b) = map-append (λ (l : Loop_body). l.var) (loops_in a) (loops_in b) ∙ (ap (λ z. z ++ map (λ (l : Loop_body). l.var) (loops_in b)) (loop_vars a) ∙ ap (λ z. vars a ++ z) (loop_vars b))
-  item_loop_vars (Off o) = refl
+  item_loop_vars (SignOff o) = refl
 
   loop_vars : (d : BodyTree) → map (λ (l : Loop_body). l.var) (loops_in d) ≡ vars d
   loop_vars Nil = refl
@@ -52,7 +52,7 @@ vars_without (Then (Write s) d) = vars_without d
 vars_without (Then (Copy x) d) = vars_without d
 vars_without (Then (For x y s e) d) = ap (λ z. x ∷ (z ++ vars (without d))) (vars_without e) ∙ ap (λ z. x ∷ (vars e ++ z)) (vars_without d)
 vars_without (Then (If c a b) d) = ap (λ z. (z ++ vars (without b)) ++ vars (without d)) (vars_without a) ∙ (ap (λ z. (vars a ++ z) ++ vars (without d)) (vars_without b) ∙ ap (λ z. (vars a ++ vars b) ++ z) (vars_without d))
-vars_without (Then (Off o) d) = vars_without d
+vars_without (Then (SignOff o) d) = vars_without d
 
 Once-map : {X : Type 0} (f : X → ℕ) (xs : List X) (a b : X) → Once (map f xs) → In a xs → In b xs → f a ≡ f b → a ≡ b
 Once-map f [] a b o i j e = absurd i
@@ -75,7 +75,7 @@ without_none (Then (If c a b) d) e =
     let q = none_of_two (offs_in a ++ offs_in b) (offs_in d) e in
     let r = none_of_two (offs_in a) (offs_in b) q.0 in
     ap (λ z. Then (If c z (without b)) (without d)) (without_none a r.0) ∙ (ap (λ z. Then (If c a z) (without d)) (without_none b r.1) ∙ ap (Then (If c a b)) (without_none d q.1))
-without_none (Then (Off o) d) e = absurd (cc)
+without_none (Then (SignOff o) d) e = absurd (cc)
 
 only_without : (d : BodyTree) → OnlyOffs d → (without d ≡ Nil) × (d ≡ offs_body (own_offs d))
 only_without Nil h = (refl, refl)
@@ -83,7 +83,7 @@ only_without (Then (Write s) d) h = absurd h
 only_without (Then (Copy x) d) h = absurd h
 only_without (Then (For x y s b) d) h = absurd h
 only_without (Then (If c a b) d) h = absurd h
-only_without (Then (Off o) d) h = let q = only_without d h in (q.0, ap (Then (Off o)) q.1)
+only_without (Then (SignOff o) d) h = let q = only_without d h in (q.0, ap (Then (SignOff o)) q.1)
 
 module _ (ends : ℕ → List OffTree) where
   -- a body is known by its core, by its own statements and by those of its loops
@@ -97,9 +97,9 @@ module _ (ends : ℕ → List OffTree) where
   rebuilt u (Then (If c a b) d) st h =
       ap (λ z. Then (If c z b) d) (sym (without_none a st.0)) ∙ (ap (λ z. Then (If c (without a) z) d) (sym (without_none b st.1))
       ∙ ap (Then (If c (without a) (without b))) (rebuilt u d st.2 (λ l i. h l (In-right l (loops_in a ++ loops_in b) (loops_in d) i))))
-  rebuilt u (Then (Off o) d) st h =
+  rebuilt u (Then (SignOff o) d) st h =
       let q = only_without d st.1 in
-      ap (Then (Off o)) q.1 ∙ ap (λ z. add_offs (place ends z) (o ∷ own_offs d)) (sym q.0)
+      ap (Then (SignOff o)) q.1 ∙ ap (λ z. add_offs (place ends z) (o ∷ own_offs d)) (sym q.0)
 
 -- where a statement stands
 stands_where : (u : ℕ) (d : BodyTree) (o : OffTree) → AtEnds u d → In o (offs_in d) → (In o (own_offs d) × (o.base ≡ u)) ⊎ ((l : Loop_body) × In l (loops_in d) × In o (own_offs l.body) × (o.base ≡ l.var))
@@ -123,8 +123,8 @@ stands_where u (Then (If c a b) d) o st i = elim (In-append o (offs_in a ++ offs
     | inr k ↦ inr (k.0, In-right k.0 (loops_in a ++ loops_in b) (loops_in d) k.1, k.2, k.3)
   ]
 ]
-stands_where u (Then (Off t) d) o st (inl e) = inl (inl e, ap (λ (z : OffTree). z.base) (sym e) ∙ st.0)
-stands_where u (Then (Off t) d) o st (inr i) = elim (stands_where u d o st.2 i) [ inl k ↦ inl (inr k.0, k.1) | inr k ↦ inr k ]
+stands_where u (Then (SignOff t) d) o st (inl e) = inl (inl e, ap (λ (z : OffTree). z.base) (sym e) ∙ st.0)
+stands_where u (Then (SignOff t) d) o st (inr i) = elim (stands_where u d o st.2 i) [ inl k ↦ inl (inr k.0, k.1) | inr k ↦ inr k ]
 
 -- a body's own statements are of its variable, and stand in it
 own_of : (u : ℕ) (d : BodyTree) (o : OffTree) → AtEnds u d → In o (own_offs d) → (o.base ≡ u) × In o (offs_in d)
@@ -133,8 +133,8 @@ own_of u (Then (Write s) d) o st i = own_of u d o st i
 own_of u (Then (Copy x) d) o st i = own_of u d o st i
 own_of u (Then (For x y s e) d) o st i = let q = own_of u d o st.2 i in (q.0, In-right o (offs_in e) (offs_in d) q.1)
 own_of u (Then (If c a b) d) o st i = let q = own_of u d o st.2 i in (q.0, In-right o (offs_in a ++ offs_in b) (offs_in d) q.1)
-own_of u (Then (Off t) d) o st (inl e) = (ap (λ (z : OffTree). z.base) (sym e) ∙ st.0, inl e)
-own_of u (Then (Off t) d) o st (inr i) = let q = own_of u d o st.2 i in (q.0, inr q.1)
+own_of u (Then (SignOff t) d) o st (inl e) = (ap (λ (z : OffTree). z.base) (sym e) ∙ st.0, inl e)
+own_of u (Then (SignOff t) d) o st (inr i) = let q = own_of u d o st.2 i in (q.0, inr q.1)
 
 -- in what has no statements no loop has any
 own_empty : (d : BodyTree) → offs_in d ≡ [] → own_offs d ≡ []
@@ -143,7 +143,7 @@ own_empty (Then (Write s) d) e = own_empty d e
 own_empty (Then (Copy x) d) e = own_empty d e
 own_empty (Then (For x y s b) d) e = own_empty d (none_of_two (offs_in b) (offs_in d) e).1
 own_empty (Then (If c a b) d) e = own_empty d (none_of_two (offs_in a ++ offs_in b) (offs_in d) e).1
-own_empty (Then (Off o) d) e = absurd (cc)
+own_empty (Then (SignOff o) d) e = absurd (cc)
 
 loops_empty : (d : BodyTree) (l : Loop_body) → offs_in d ≡ [] → In l (loops_in d) → own_offs l.body ≡ []
 loops_empty Nil l e i = absurd i
@@ -158,7 +158,7 @@ loops_empty (Then (If c a b) d) l e i =
       | inl j ↦ elim (In-append l (loops_in a) (loops_in b) j) [ inl k ↦ loops_empty a l r.0 k | inr k ↦ loops_empty b l r.1 k ]
       | inr j ↦ loops_empty d l q.1 j
     ]
-loops_empty (Then (Off o) d) l e i = absurd (cc)
+loops_empty (Then (SignOff o) d) l e i = absurd (cc)
 
 -- of a loop's body: its own statements are in order and of its variable, and stand in the whole
 loop_own : (u : ℕ) (d : BodyTree) (l : Loop_body) → AtEnds u d → In l (loops_in d) → InOrder (own_offs l.body) × ((o : OffTree) → In o (own_offs l.body) → (o.base ≡ l.var) × In o (offs_in d))
@@ -178,7 +178,7 @@ loop_own u (Then (If c a b) d) l st i = elim (In-append l (loops_in a ++ loops_i
   where
     none_here : (e : BodyTree) (l : Loop_body) → offs_in e ≡ [] → In l (loops_in e) → InOrder (own_offs l.body) × ((o : OffTree) → In o (own_offs l.body) → (o.base ≡ l.var) × In o (offs_in (Then (If c a b) d)))
     none_here e l f k = let q = loops_empty e l f k in (subst (λ (z : List OffTree). InOrder z) (sym q) tt, λ o m. absurd (subst (λ (z : List OffTree). In o z) q m))
-loop_own u (Then (Off t) d) l st i = let q = loop_own u d l st.2 i in (q.0, λ o k. let r = q.1 o k in (r.0, inr r.1))
+loop_own u (Then (SignOff t) d) l st i = let q = loop_own u d l st.2 i in (q.0, λ o k. let r = q.1 o k in (r.0, inr r.1))
 
 -- The plan of a core is placed for it.
 
@@ -201,7 +201,7 @@ module _ (ends : ℕ → List OffTree) (based : (x : ℕ) (o : OffTree) → In o
   placed_own (Then (Copy x) d) b L os q = placed_own d b L os q.1
   placed_own (Then (For x y s e) d) b L os q = placed_own d b L os q.1
   placed_own (Then (If c a e) d) b L os q = placed_own d b L os q.1
-  placed_own (Then (Off o) d) b L os q = absurd q.0
+  placed_own (Then (SignOff o) d) b L os q = absurd q.0
 
   core_none : (d : BodyTree) (b : Bool) (L : List ℕ) → BodyIn b L d → offs_in d ≡ []
   core_none Nil b L q = refl
@@ -209,7 +209,7 @@ module _ (ends : ℕ → List OffTree) (based : (x : ℕ) (o : OffTree) → In o
   core_none (Then (Copy x) d) b L q = core_none d b L q.1
   core_none (Then (For x y s e) d) b L q = ap (λ z. z ++ offs_in d) (core_none e b (x ∷ L) q.0.2) ∙ core_none d b L q.1
   core_none (Then (If c a e) d) b L q = ap (λ z. (z ++ offs_in e) ++ offs_in d) (core_none a false L q.0.1) ∙ (ap (λ z. z ++ offs_in d) (core_none e false L q.0.2) ∙ core_none d b L q.1)
-  core_none (Then (Off o) d) b L q = absurd q.0
+  core_none (Then (SignOff o) d) b L q = absurd q.0
 
   placed_stand : (u : ℕ) (d : BodyTree) (b : Bool) (L : List ℕ) (os : List OffTree) → BodyIn b L d → ((o : OffTree) → In o os → o.base ≡ u) → AtEnds u (add_offs (place ends d) os)
   placed_stand u Nil b L os q h = offs_stand u os h
@@ -217,7 +217,7 @@ module _ (ends : ℕ → List OffTree) (based : (x : ℕ) (o : OffTree) → In o
   placed_stand u (Then (Copy x) d) b L os q h = placed_stand u d b L os q.1 h
   placed_stand u (Then (For x y s e) d) b L os q h = (placed_stand x e b (x ∷ L) (ends x) q.0.2 (based x), subst (λ (z : List OffTree). InOrder z) (sym (placed_own e b (x ∷ L) (ends x) q.0.2)) (ordered x), placed_stand u d b L os q.1 h)
   placed_stand u (Then (If c a e) d) b L os q h = (core_none a false L q.0.1, core_none e false L q.0.2, placed_stand u d b L os q.1 h)
-  placed_stand u (Then (Off o) d) b L os q h = absurd q.0
+  placed_stand u (Then (SignOff o) d) b L os q h = absurd q.0
 
 pub row_there : (rs : List RoleRowTree) (r : ℕ) → r < length rs → (row : RoleRowTree) × (row_at rs r ≡ Some row)
 row_there [] r l = absurd (omega arith)

@@ -1,10 +1,10 @@
 -- A statement that is still to come isn't signed: once every node is closed, all that is to come is taken, and nothing is taken twice.
 use Rattle.std.proofs.Common.{◌≡◌, ℕ, ◌<◌, true, List, [], ◌∷◌, ◌++◌, length, refl, sym, ◌∙◌, ap, subst, inl, inr, ◌⊎◌, arith, Some, None, Option, ltb}
 use Rattle.std.proofs.lemmas.Bool.{eq-eqb}
-use Rattle.gcx_model.specs.Tree.{Node, Root, Under, serial_of, Tree, Token, End, grow, grow_all, is_closed}
+use Rattle.gcx_model.specs.Tree.{Node, Root, Under, serial_of, Tree, TreeToken, End, grow, grow_all, is_closed}
 use Rattle.gcx_base.specs.declared.steps.Step.{Step}
 use Rattle.gcx_model.specs.Paths.{matches}
-use Rattle.gcx_model.specs.Core.{ItemTree, For, Off, BodyTree, Nil, Then, OffTree}
+use Rattle.gcx_model.specs.Core.{ItemTree, For, SignOff, BodyTree, Nil, Then, OffTree}
 use Rattle.gcx_model.specs.Truth.{Env, bind_var}
 use Rattle.gcx_model.specs.Run.{env0, Action, Out, copy, loop, seq, run_item, run}
 use Rattle.tree_laws.proofs.Lists.{In, Once, In-left, In-right, In-filter, In-kept}
@@ -16,25 +16,25 @@ use Rattle.placed_laws.proofs.Needed.{Way}
 use Rattle.placed_laws.proofs.AllTaken.{seq_both, seq_left, seq_right, loop_has, off_eq}
 use Rattle.tree_laws.proofs.Equal.{off_refl}
 use Rattle.placed_laws.proofs.Once.{way_once}
-use Rattle.placed_laws.proofs.PointForms.{Frame, Rest, Round, Part, IsPoint, body_at, later, behind, to_come, to_come-append, resume, stands_on, after}
+use Rattle.placed_laws.proofs.PointForms.{Frame, Rest, LoopRound, CopyPart, IsPoint, body_at, later, behind, to_come, to_come-append, resume, stands_on, after}
 use Rattle.tree_laws.proofs.Fed.{nodes_stay}
 
 -- the statement is an item of the body
 abbrev pub Has : OffTree → BodyTree → Type 0
 Has o Nil = ⊥
-Has o (Then i d) = (i ≡ Off o) ⊎ Has o d
+Has o (Then i d) = (i ≡ SignOff o) ⊎ Has o d
 
 -- it is still to come in a frame, in which the variables are bound as v says
 abbrev pub Waits : OffTree → Env → List Frame → Type 0
 Waits o v [] = ⊥
 Waits o v (Rest d env ∷ fs) = (Has o d × (env ≡ v)) ⊎ Waits o v fs
-Waits o v (Round x y s e env n ∷ fs) = Waits o v fs
-Waits o v (Part x env k ∷ fs) = Waits o v fs
+Waits o v (LoopRound x y s e env n ∷ fs) = Waits o v fs
+Waits o v (CopyPart x env k ∷ fs) = Waits o v fs
 
 pub Waits-over : (o : OffTree) (v : Env) (f : Frame) (fs : List Frame) → Waits o v fs → Waits o v (f ∷ fs)
 Waits-over o v (Rest d env) fs h = inr h
-Waits-over o v (Round x y s e env n) fs h = h
-Waits-over o v (Part x env k) fs h = h
+Waits-over o v (LoopRound x y s e env n) fs h = h
+Waits-over o v (CopyPart x env k) fs h = h
 
 pub Waits-right : (o : OffTree) (v : Env) (fs gs : List Frame) → Waits o v gs → Waits o v (fs ++ gs)
 Waits-right o v [] gs h = h
@@ -44,11 +44,11 @@ pub Waits-left : (o : OffTree) (v : Env) (fs gs : List Frame) → Waits o v fs �
 Waits-left o v [] gs h = absurd h
 Waits-left o v (Rest d env ∷ fs) gs (inl e) = inl e
 Waits-left o v (Rest d env ∷ fs) gs (inr h) = inr (Waits-left o v fs gs h)
-Waits-left o v (Round x y s e env n ∷ fs) gs h = Waits-left o v fs gs h
-Waits-left o v (Part x env k ∷ fs) gs h = Waits-left o v fs gs h
+Waits-left o v (LoopRound x y s e env n ∷ fs) gs h = Waits-left o v fs gs h
+Waits-left o v (CopyPart x env k ∷ fs) gs h = Waits-left o v fs gs h
 
 -- tokens that close all that is open
-abbrev ends : Node → List Token
+abbrev ends : Node → List TreeToken
 ends Root = End ∷ []
 ends (Under p s k) = End ∷ ends p
 
@@ -56,15 +56,15 @@ ends_close : (n : Node) (P : Tree) → P.at ≡ Some n → (grow_all (ends n) P)
 ends_close Root P e = rw e refl
 ends_close (Under p s k) P e = ends_close p (grow End P) (rw e refl)
 
-pub closing : (P : Tree) → (ts : List Token) × ((grow_all ts P).at ≡ None)
+pub closing : (P : Tree) → (ts : List TreeToken) × ((grow_all ts P).at ≡ None)
 closing P = go P.at refl
   where
-    go : (at : Option Node) → P.at ≡ at → (ts : List Token) × ((grow_all ts P).at ≡ None)
+    go : (at : Option Node) → P.at ≡ at → (ts : List TreeToken) × ((grow_all ts P).at ≡ None)
     go None e = ([], e)
     go (Some n) e = (ends n, ends_close n P e)
 
 -- the point stays while tokens come
-pub stands_all : (ts : List Token) (P : Tree) (w : Grown P) (d : BodyTree) (env : Env) (before : List Action) (fs : List Frame) → ((x : ℕ) → serial_of (env x) < length P.nodes) → IsPoint P d env before fs → IsPoint (grow_all ts P) d env before fs
+pub stands_all : (ts : List TreeToken) (P : Tree) (w : Grown P) (d : BodyTree) (env : Env) (before : List Action) (fs : List Frame) → ((x : ℕ) → serial_of (env x) < length P.nodes) → IsPoint P d env before fs → IsPoint (grow_all ts P) d env before fs
 stands_all [] P w d env before fs b h = h
 stands_all (t ∷ ts) P w d env before fs b h = stands_all ts (grow t P) (Grown-grow t P w) d env before fs (Bound-grow t P w env b t) (stands_on t P w d env before fs b h)
 
@@ -92,18 +92,18 @@ module _ (P : Tree) where
   waits_signs o v (Rest d env ∷ fs) (inr h) dn =
       let q = seq_both (run d env P) (to_come P fs) dn in
       seq_right (off_eq o) (serial_of (v o.base)) (run d env P) (to_come P fs) q.0 (waits_signs o v fs h q.1)
-  waits_signs o v (Round x y s e env n ∷ fs) h dn =
+  waits_signs o v (LoopRound x y s e env n ∷ fs) h dn =
       let a : Out = loop (body_at e x env P) (later n (matches P (serial_of (env y)) (s ∷ []))) (is_closed P (env y)) in
       let q = seq_both a (to_come P fs) dn in
       seq_right (off_eq o) (serial_of (v o.base)) a (to_come P fs) q.0 (waits_signs o v fs h q.1)
-  waits_signs o v (Part x env k ∷ fs) h dn =
+  waits_signs o v (CopyPart x env k ∷ fs) h dn =
       let a : Out = behind k (copy (length P.nodes) P (env x)) in
       let q = seq_both a (to_come P fs) dn in
       seq_right (off_eq o) (serial_of (v o.base)) a (to_come P fs) q.0 (waits_signs o v fs h q.1)
 
 module _ (P : Tree) (w : Grown P) (root : In Root P.nodes) (d : BodyTree) (o : OffTree) (path : List Step) (way : Way (off_eq o) o.base 0 d path) (one : one_desc path ≡ true) (before : List Action) (fs : List Frame) (st : IsPoint P d env0 before fs) where
   -- what is to come in a tree in which all is closed
-  closed_later : (m : ℕ) → ((ts : List Token) → (to_come (grow_all ts P) fs).done ≡ true → In m (sig (off_eq o) (to_come (grow_all ts P) fs).acts)) → In m (sig (off_eq o) before) → ⊥
+  closed_later : (m : ℕ) → ((ts : List TreeToken) → (to_come (grow_all ts P) fs).done ≡ true → In m (sig (off_eq o) (to_come (grow_all ts P) fs).acts)) → In m (sig (off_eq o) before) → ⊥
   closed_later m h i =
       let c = closing P in
       let Q : Tree = grow_all c.0 P in
@@ -126,19 +126,19 @@ module _ (P : Tree) (w : Grown P) (root : In Root P.nodes) (d : BodyTree) (o : O
   waits_unsigned v h = closed_later (serial_of (v o.base)) (λ ts dn. waits_signs (grow_all ts P) o v fs h dn)
 
   -- nor are the later matches of a loop in whose body it stands
-  pub later_unsigned : (top rest : List Frame) (x y : ℕ) (s : Step) (e : BodyTree) (env : Env) (n m : Node) → fs ≡ top ++ Round x y s e env n ∷ rest → Has o e → o.base ≡ x → In m (later n (matches P (serial_of (env y)) (s ∷ []))) → In (serial_of m) (sig (off_eq o) before) → ⊥
+  pub later_unsigned : (top rest : List Frame) (x y : ℕ) (s : Step) (e : BodyTree) (env : Env) (n m : Node) → fs ≡ top ++ LoopRound x y s e env n ∷ rest → Has o e → o.base ≡ x → In m (later n (matches P (serial_of (env y)) (s ∷ []))) → In (serial_of m) (sig (off_eq o) before) → ⊥
   later_unsigned top rest x y s e env n m are has b i = closed_later (serial_of m) (λ ts dn. in_tree ts (subst (λ (z : List Frame). (to_come (grow_all ts P) z).done ≡ true → In (serial_of m) (sig (off_eq o) (to_come (grow_all ts P) z).acts)) (sym are) (λ dn. inner ts dn)) dn)
     where
-      in_tree : (ts : List Token) → ((to_come (grow_all ts P) fs).done ≡ true → In (serial_of m) (sig (off_eq o) (to_come (grow_all ts P) fs).acts)) → (to_come (grow_all ts P) fs).done ≡ true → In (serial_of m) (sig (off_eq o) (to_come (grow_all ts P) fs).acts)
+      in_tree : (ts : List TreeToken) → ((to_come (grow_all ts P) fs).done ≡ true → In (serial_of m) (sig (off_eq o) (to_come (grow_all ts P) fs).acts)) → (to_come (grow_all ts P) fs).done ≡ true → In (serial_of m) (sig (off_eq o) (to_come (grow_all ts P) fs).acts)
       in_tree ts h dn = h dn
 
-      inner : (ts : List Token) → (to_come (grow_all ts P) (top ++ Round x y s e env n ∷ rest)).done ≡ true → In (serial_of m) (sig (off_eq o) (to_come (grow_all ts P) (top ++ Round x y s e env n ∷ rest)).acts)
+      inner : (ts : List TreeToken) → (to_come (grow_all ts P) (top ++ LoopRound x y s e env n ∷ rest)).done ≡ true → In (serial_of m) (sig (off_eq o) (to_come (grow_all ts P) (top ++ LoopRound x y s e env n ∷ rest)).acts)
       inner ts dn =
           let Q : Tree = grow_all ts P in
           let f : Node → Out = body_at e x env Q in
           let ms : List Node = later n (matches Q (serial_of (env y)) (s ∷ [])) in
           let a : Out = loop f ms (is_closed Q (env y)) in
-          let ap' = to_come-append Q top (Round x y s e env n ∷ rest) in
+          let ap' = to_come-append Q top (LoopRound x y s e env n ∷ rest) in
           let q = seq_both (to_come Q top) (seq a (to_come Q rest)) (sym (ap (λ (z : Out). z.done) ap') ∙ dn) in
           let q' = seq_both a (to_come Q rest) q.1 in
           let k = In-filter (λ (j : Node). ltb (serial_of n) (serial_of j)) m (matches P (serial_of (env y)) (s ∷ [])) i in
@@ -155,10 +155,10 @@ module _ (P : Tree) (w : Grown P) (root : In Root P.nodes) (d : BodyTree) (o : O
   pub loop_unsigned : (top rest : List Frame) (x y : ℕ) (s : Step) (e d : BodyTree) (env : Env) (m : Node) → fs ≡ top ++ Rest (Then (For x y s e) d) env ∷ rest → Has o e → o.base ≡ x → In m (matches P (serial_of (env y)) (s ∷ [])) → In (serial_of m) (sig (off_eq o) before) → ⊥
   loop_unsigned top rest x y s e d' env m are has b i = closed_later (serial_of m) (λ ts dn. in_tree ts (subst (λ (z : List Frame). (to_come (grow_all ts P) z).done ≡ true → In (serial_of m) (sig (off_eq o) (to_come (grow_all ts P) z).acts)) (sym are) (λ dn. inner ts dn)) dn)
     where
-      in_tree : (ts : List Token) → ((to_come (grow_all ts P) fs).done ≡ true → In (serial_of m) (sig (off_eq o) (to_come (grow_all ts P) fs).acts)) → (to_come (grow_all ts P) fs).done ≡ true → In (serial_of m) (sig (off_eq o) (to_come (grow_all ts P) fs).acts)
+      in_tree : (ts : List TreeToken) → ((to_come (grow_all ts P) fs).done ≡ true → In (serial_of m) (sig (off_eq o) (to_come (grow_all ts P) fs).acts)) → (to_come (grow_all ts P) fs).done ≡ true → In (serial_of m) (sig (off_eq o) (to_come (grow_all ts P) fs).acts)
       in_tree ts h dn = h dn
 
-      inner : (ts : List Token) → (to_come (grow_all ts P) (top ++ Rest (Then (For x y s e) d') env ∷ rest)).done ≡ true → In (serial_of m) (sig (off_eq o) (to_come (grow_all ts P) (top ++ Rest (Then (For x y s e) d') env ∷ rest)).acts)
+      inner : (ts : List TreeToken) → (to_come (grow_all ts P) (top ++ Rest (Then (For x y s e) d') env ∷ rest)).done ≡ true → In (serial_of m) (sig (off_eq o) (to_come (grow_all ts P) (top ++ Rest (Then (For x y s e) d') env ∷ rest)).acts)
       inner ts dn =
           let Q : Tree = grow_all ts P in
           let f : Node → Out = body_at e x env Q in

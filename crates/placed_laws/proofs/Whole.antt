@@ -4,10 +4,10 @@ use Rattle.std.proofs.lemmas.List.{length-append}
 use Rattle.std.proofs.lemmas.Bool.{and_parts, and_from, false≢true, eqb-true}
 use Rattle.gcx_base.specs.declared.kind.Kind.{Kind}
 use Rattle.gcx_base.specs.declared.kind.Kind.TheVariants.{Document, Element, Text}
-use Rattle.gcx_model.specs.Tree.{Node, Root, Under, serial_of, kind_of, above, Tree, Token, opening, grow, grow_all, is_closed}
+use Rattle.gcx_model.specs.Tree.{Node, Root, Under, serial_of, kind_of, above, Tree, TreeToken, opening, grow, grow_all, is_closed}
 use Rattle.gcx_base.specs.Tests.{passes}
 use Rattle.gcx_model.specs.Paths.{hits, matches, reach, lies}
-use Rattle.gcx_model.specs.Core.{CondTree, Always, Exists, Compare, Not, All, Any, CondTrees, no_cond, more_conds, OperandTree, Path, Str, Num, ItemTree, Write, Copy, For, If, Off, BodyTree, Nil, Then}
+use Rattle.gcx_model.specs.Core.{CondTree, Always, Exists, Compare, Not, AllOf, AnyOf, CondTrees, no_cond, more_conds, OperandTree, Path, Str, Num, ItemTree, Write, Copy, For, If, SignOff, BodyTree, Nil, Then}
 use Rattle.gcx_model.specs.declared.truth.Truth.{Truth}
 use Rattle.gcx_model.specs.declared.truth.Truth.TheVariants.{True, False, Unknown}
 use Rattle.gcx_model.specs.Truth.{Env, bind_var, is_over, settle, negate, both, either, truth, truth_all, truth_any}
@@ -18,18 +18,18 @@ use Rattle.tree_laws.proofs.Lists.{In, any_in}
 use Rattle.tree_laws.proofs.Matches.{Grown, Grown-grow, Grown-opening, Grown-all, Numbered-high, Matches-in, grow_nodes}
 use Rattle.placed_laws.proofs.Prefix.{Before, Before-trans, Before-refl, Bound, run_grows}
 
-pub Bound-grow : (t : Token) (P : Tree) (w : Grown P) (env : Env) → Bound t P w env → (u : Token) → Bound u (grow t P) (Grown-grow t P w) env
+pub Bound-grow : (t : TreeToken) (P : Tree) (w : Grown P) (env : Env) → Bound t P w env → (u : TreeToken) → Bound u (grow t P) (Grown-grow t P w) env
 Bound-grow t P w env b u x = let h = b x in rw (grow_nodes t P, length-append) (omega arith)
 
 -- the prefix law
-pub run_grows_all : (ts : List Token) (P : Tree) (w : Grown P) (d : BodyTree) (env : Env) → ((x : ℕ) → serial_of (env x) < length P.nodes) → Before (run d env P) (run d env (grow_all ts P))
+pub run_grows_all : (ts : List TreeToken) (P : Tree) (w : Grown P) (d : BodyTree) (env : Env) → ((x : ℕ) → serial_of (env x) < length P.nodes) → Before (run d env P) (run d env (grow_all ts P))
 run_grows_all [] P w d env b = Before-refl _
 run_grows_all (t ∷ ts) P w d env b = Before-trans _ _ _ (run_grows t P w d env b) (run_grows_all ts (grow t P) (Grown-grow t P w) d env (Bound-grow t P w env b t))
 
-pub prefix : (ts us : List Token) (d : BodyTree) → Before (run d env0 (grow_all ts opening)) (run d env0 (grow_all us (grow_all ts opening)))
+pub prefix : (ts us : List TreeToken) (d : BodyTree) → Before (run d env0 (grow_all ts opening)) (run d env0 (grow_all us (grow_all ts opening)))
 prefix ts us d = run_grows_all us (grow_all ts opening) (Grown-all ts opening Grown-opening) d env0 (λ x. some_node ts opening (omega arith))
   where
-    some_node : (ts : List Token) (P : Tree) → 0 < length P.nodes → 0 < length (grow_all ts P).nodes
+    some_node : (ts : List TreeToken) (P : Tree) → 0 < length P.nodes → 0 < length (grow_all ts P).nodes
     some_node [] P h = h
     some_node (t ∷ ts) P h = some_node ts (grow t P) (rw (grow_nodes t P, length-append) (omega arith))
 
@@ -79,8 +79,8 @@ module _ (P : Tree) (w : Grown P) (over : P.at ≡ None) where
     known_now (Exists x tail) env e = settle_over _ _ (closed (env x)) e
     known_now (Compare l r s) env e = settle_over _ _ (and_from _ _ (over_all env l) (over_all env s)) e
     known_now (Not c) env e = negate_known _ (known_now c env) e
-    known_now (All cs) env e = all_known cs env e
-    known_now (Any cs) env e = any_known cs env e
+    known_now (AllOf cs) env e = all_known cs env e
+    known_now (AnyOf cs) env e = any_known cs env e
 
     all_known : (cs : CondTrees) (env : Env) → truth_all cs env P ≡ Unknown → ⊥
     all_known no_cond env e = cc
@@ -144,7 +144,7 @@ module _ (P : Tree) (w : Grown P) (over : P.at ≡ None) where
             go true = i
             go false = b z
     item_is_done (If c d e) env b = choose_is_done _ _ _ (known_now c env) (run_is_done d env b) (run_is_done e env b)
-    item_is_done (Off o) env b = refl
+    item_is_done (SignOff o) env b = refl
 
     pub run_is_done : (d : BodyTree) (env : Env) → Inside env → (run d env P).done ≡ true
     run_is_done Nil env b = refl

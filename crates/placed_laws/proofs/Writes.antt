@@ -4,7 +4,7 @@ use Rattle.std.specs.List.{filter}
 use Rattle.std.proofs.lemmas.List.Elements.{filter-append}
 use Rattle.gcx_model.specs.Tree.{Node, serial_of, Tree, is_closed}
 use Rattle.gcx_model.specs.Paths.{matches}
-use Rattle.gcx_model.specs.Core.{Write, Copy, For, If, Off, BodyTree, Nil, Then, OffTree}
+use Rattle.gcx_model.specs.Core.{Write, Copy, For, If, SignOff, BodyTree, Nil, Then, OffTree}
 use Rattle.gcx_model.specs.Truth.{Env, bind_var}
 use Rattle.gcx_model.specs.Run.{env0, Action, Wrote, Offed, Out, idle, loop, seq, seq_if, run_item, run}
 use Rattle.gcx_model.specs.Placed.{add_offs, offs_body, place, at_end, offs_of}
@@ -38,7 +38,7 @@ module _ (P : Tree) (ends : ℕ → List OffTree) where
   alike Nil os env = alike_offs os env
   alike (Then (Write s) d) os env = alike_seq (run_item (Write s) env P) (run_item (Write s) env P) (run (add_offs (place ends d) os) env P) (run d env P) (refl, refl) (alike d os env)
   alike (Then (Copy x) d) os env = alike_seq (run_item (Copy x) env P) (run_item (Copy x) env P) (run (add_offs (place ends d) os) env P) (run d env P) (refl, refl) (alike d os env)
-  alike (Then (Off o) d) os env = alike_seq (run_item (Off o) env P) (run_item (Off o) env P) (run (add_offs (place ends d) os) env P) (run d env P) (refl, refl) (alike d os env)
+  alike (Then (SignOff o) d) os env = alike_seq (run_item (SignOff o) env P) (run_item (SignOff o) env P) (run (add_offs (place ends d) os) env P) (run d env P) (refl, refl) (alike d os env)
   alike (Then (If c a b) d) os env = alike_seq (run_item (If c a b) env P) (run_item (If c a b) env P) (run (add_offs (place ends d) os) env P) (run d env P) (refl, refl) (alike d os env)
   alike (Then (For x y s e) d) os env =
       alike_seq (run_item (For x y s (add_offs (place ends e) (ends x))) env P) (run_item (For x y s e) env P) (run (add_offs (place ends d) os) env P) (run d env P)

@@ -15,7 +15,7 @@ use Rattle.gcx_model.specs.Tree.{Node}
 use Rattle.gcx_model.specs.Tree.{serial_of}
 use Rattle.gcx_model.specs.Tree.{Tree}
 use Rattle.gcx_model.specs.Tree.{opening}
-use Rattle.gcx_model.specs.Tree.{Token}
+use Rattle.gcx_model.specs.Tree.{TreeToken}
 use Rattle.gcx_model.specs.Tree.{grow}
 use Rattle.gcx_model.specs.Paths.{matches}
 use Rattle.gcx_model.specs.Members.{In}
@@ -76,7 +76,7 @@ GoneStays = (core : BodyTree) → Good core → (plan : PlanTree) → Placed cor
 
 -- The nodes held behind a token come from those held before it and the new one,
 abbrev pub HeldByFeed : Type 0
-HeldByFeed = (core : BodyTree) → Good core → (plan : PlanTree) → Placed core plan → (P : Tree) → Leads opening P → (t : Token) (A : List Action)
+HeldByFeed = (core : BodyTree) → Good core → (plan : PlanTree) → Placed core plan → (P : Tree) → Leads opening P → (t : TreeToken) (A : List Action)
     → held plan (grow t P) A ≡ filter (is_held plan (grow t P) A) (held plan P A ++ drop (length P.nodes) (grow t P).nodes)
 
 -- and those held behind an action from those held before it.

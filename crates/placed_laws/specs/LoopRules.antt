@@ -9,7 +9,7 @@ use Rattle.gcx_model.specs.Cores.{Good}
 -- d is what is left, from some item on, of the body of u's loop, or of a branch in it; the body of 0 is the core itself
 pub data BodyOf (core : BodyTree) : (u : ℕ) → (d : BodyTree) → Type 0 where
   whole : BodyOf core 0 core
-  behind : {u : ℕ} {i : ItemTree} {d : BodyTree} → BodyOf core u (Then i d) → BodyOf core u d
+  after_item : {u : ℕ} {i : ItemTree} {d : BodyTree} → BodyOf core u (Then i d) → BodyOf core u d
   inner : {u x y : ℕ} {s : Step} {e d : BodyTree} → BodyOf core u (Then (For x y s e) d) → BodyOf core x e
   this_side : {u : ℕ} {c : CondTree} {a b d : BodyTree} → BodyOf core u (Then (If c a b) d) → BodyOf core u a
   other_side : {u : ℕ} {c : CondTree} {a b d : BodyTree} → BodyOf core u (Then (If c a b) d) → BodyOf core u b

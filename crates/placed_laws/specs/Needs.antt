@@ -19,7 +19,7 @@ use Rattle.gcx_model.specs.Core.{If}
 use Rattle.gcx_model.specs.Core.{OffTree}
 use Rattle.gcx_model.specs.Core.{PlanTree}
 use Rattle.gcx_model.specs.Core.{ItemTree}
-use Rattle.gcx_model.specs.Core.{Off}
+use Rattle.gcx_model.specs.Core.{SignOff}
 use Rattle.gcx_model.specs.Truth.{Env}
 use Rattle.gcx_model.specs.Truth.{truth}
 use Rattle.gcx_model.specs.Run.{Offed}
@@ -33,8 +33,8 @@ use Rattle.gcx_model.specs.Points.{so_far}
 use Rattle.gcx_model.specs.Points.{CoreState}
 use Rattle.gcx_model.specs.Points.{Frame}
 use Rattle.gcx_model.specs.Points.{Rest}
-use Rattle.gcx_model.specs.Points.{Round}
-use Rattle.gcx_model.specs.Points.{Part}
+use Rattle.gcx_model.specs.Points.{LoopRound}
+use Rattle.gcx_model.specs.Points.{CopyPart}
 use Rattle.gcx_model.specs.Points.{later}
 use Rattle.gcx_model.specs.Points.{PointAt}
 use Rattle.gcx_model.specs.Points.{Bound_in}
@@ -54,12 +54,12 @@ BoundLaw = (core : BodyTree) → Good core → (plan : PlanTree) → Placed core
 -- the present match of a loop is one of its parent's node, which is bound below, and of the variable's path,
 abbrev pub TurnLaw : Type 0
 TurnLaw = (core : BodyTree) → Good core → (plan : PlanTree) → Placed core plan → (P : Tree) (k : ℕ) → CoreState plan P k → (top below : List Frame) (x y : ℕ) (s : Step) (e : BodyTree) (env : Env) (n : Node)
-    → PointAt plan P k (top ++ Round x y s e env n ∷ below) → Bound_in y (env y) below × In n (matches P (serial_of (env y)) (s ∷ [])) × In n (matches P 0 (path_of plan x))
+    → PointAt plan P k (top ++ LoopRound x y s e env n ∷ below) → Bound_in y (env y) below × In n (matches P (serial_of (env y)) (s ∷ [])) × In n (matches P 0 (path_of plan x))
 
 -- and a statement with which a body goes on isn't carried out yet at its base's node.
 abbrev pub UnsignedLaw : Type 0
 UnsignedLaw = (core : BodyTree) → Good core → (plan : PlanTree) → Placed core plan → (P : Tree) (k : ℕ) → CoreState plan P k → (top below : List Frame) (o : OffTree) (d : BodyTree) (env : Env)
-    → PointAt plan P k (top ++ Rest (Then (Off o) d) env ∷ below) → In (Offed o (serial_of (env o.base))) (so_far plan P k) → ⊥
+    → PointAt plan P k (top ++ Rest (Then (SignOff o) d) env ∷ below) → In (Offed o (serial_of (env o.base))) (so_far plan P k) → ⊥
 
 -- So over the held nodes the evaluator finds what it would find over the whole tree, wherever a frame stands among the others: the truth of a condition with which a body goes on,
 abbrev pub TruthHeld : Type 0
@@ -69,7 +69,7 @@ TruthHeld = (core : BodyTree) → Good core → (plan : PlanTree) → Placed cor
 -- the later matches of a loop,
 abbrev pub TurnsHeld : Type 0
 TurnsHeld = (core : BodyTree) → Good core → (plan : PlanTree) → Placed core plan → (P : Tree) (k : ℕ) → CoreState plan P k → (top below : List Frame) (x y : ℕ) (s : Step) (e : BodyTree) (env : Env) (n : Node)
-    → PointAt plan P k (top ++ Round x y s e env n ∷ below) → later n (matches (held_tree plan P (so_far plan P k)) (serial_of (env y)) (s ∷ [])) ≡ later n (matches P (serial_of (env y)) (s ∷ []))
+    → PointAt plan P k (top ++ LoopRound x y s e env n ∷ below) → later n (matches (held_tree plan P (so_far plan P k)) (serial_of (env y)) (s ∷ [])) ≡ later n (matches P (serial_of (env y)) (s ∷ []))
 
 -- all matches of a loop that comes next,
 abbrev pub LoopHeld : Type 0
@@ -79,4 +79,4 @@ LoopHeld = (core : BodyTree) → Good core → (plan : PlanTree) → Placed core
 -- and a copy.
 abbrev pub CopyHeld : Type 0
 CopyHeld = (core : BodyTree) → Good core → (plan : PlanTree) → Placed core plan → (P : Tree) (k : ℕ) → CoreState plan P k → (top below : List Frame) (x : ℕ) (env : Env) (made most : ℕ)
-    → PointAt plan P k (top ++ Part x env made ∷ below) → copy most (held_tree plan P (so_far plan P k)) (env x) ≡ copy most P (env x)
+    → PointAt plan P k (top ++ CopyPart x env made ∷ below) → copy most (held_tree plan P (so_far plan P k)) (env x) ≡ copy most P (env x)

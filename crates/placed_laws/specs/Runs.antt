@@ -7,7 +7,7 @@ use Rattle.std.specs.Prelude.{◌++◌}
 use Rattle.std.specs.Prelude.{length}
 use Rattle.gcx_model.specs.Tree.{Tree}
 use Rattle.gcx_model.specs.Tree.{opening}
-use Rattle.gcx_model.specs.Tree.{Token}
+use Rattle.gcx_model.specs.Tree.{TreeToken}
 use Rattle.gcx_model.specs.Tree.{grow}
 use Rattle.gcx_model.specs.Members.{In}
 use Rattle.gcx_model.specs.Core.{BodyTree}
@@ -55,7 +55,7 @@ ResumeLaw = (plan : PlanTree) (P : Tree) → Leads opening P → (k : ℕ) (fs :
 
 -- The demand run goes through core states: those in which every action is taken, and those just behind a token.
 abbrev pub DemandIsReached : Type 0
-DemandIsReached = (plan : PlanTree) (ts : List Token) → may_all ts opening ≡ true
+DemandIsReached = (plan : PlanTree) (ts : List TreeToken) → may_all ts opening ≡ true
     → CoreState plan (grow_all ts opening) (length (actions plan (grow_all ts opening)))
-    × ((t : Token) → may_come t (grow_all ts opening) ≡ true → CoreState plan (grow t (grow_all ts opening)) (length (actions plan (grow_all ts opening)))
+    × ((t : TreeToken) → may_come t (grow_all ts opening) ≡ true → CoreState plan (grow t (grow_all ts opening)) (length (actions plan (grow_all ts opening)))
     × (so_far plan (grow t (grow_all ts opening)) (length (actions plan (grow_all ts opening))) ≡ actions plan (grow_all ts opening)))

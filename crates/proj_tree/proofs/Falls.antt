@@ -4,7 +4,7 @@ use Rattle.std.specs.Prelude.{nat_lt, Some, None, if◌then◌else◌}
 use Rattle.std.proofs.lemmas.List.{map-append, map_more, length-map}
 use Rattle.std.proofs.lemmas.Bool.{ltb-true, ltb-false, lt-ltb, le-ltb, or_left, or_right}
 use Rattle.gcx_base.specs.declared.steps.Step.{Step}
-use Rattle.gcx_model.specs.Core.{ItemTree, Write, Copy, For, If, Off, BodyTree, Nil, Then, VarRowTree, RoleRowTree}
+use Rattle.gcx_model.specs.Core.{ItemTree, Write, Copy, For, If, SignOff, BodyTree, Nil, Then, VarRowTree, RoleRowTree}
 use Rattle.gcx_model.specs.Cores.{Good}
 use Rattle.gcx_model.specs.Paths.{any}
 use Rattle.gcx_model.specs.Roles.{roles_of}
@@ -85,7 +85,7 @@ mutual
   item_rows_are (Copy x) u = refl
   item_rows_are (For x y s d) u = ap (λ rs. record { parent = y; step = s } ∷ rs) (rows_are d x)
   item_rows_are (If c a b) u = (λ i. rows_are a u i ++ rows_are b u i) ∙ sym (map-append row_of (loops a u) (loops b u))
-  item_rows_are (Off o) u = refl
+  item_rows_are (SignOff o) u = refl
 
   pub rows_are : (d : BodyTree) (u : ℕ) → var_rows d ≡ map row_of (loops d u)
   rows_are Nil u = refl

@@ -3,7 +3,7 @@ use Rattle.std.proofs.Common.{ℕ, zero, suc, ◌≡◌, ◌+◌, ◌<◌, ◌==
 use Rattle.std.proofs.lemmas.List.{map_more, length-map, length-take}
 use Rattle.std.proofs.lemmas.Bool.{eq-eqb, ne_eqb}
 use Rattle.gcx_model.specs.declared.plan.RoleRow.{RoleRow}
-use Rattle.gcx_model.specs.Core.{OperandTree, Path, Str, Num, CondTree, CondTrees, Always, Exists, Compare, Not, All, Any, no_cond, more_conds, ItemTree, Write, Copy, For, If, Off, BodyTree, Nil, Then, RoleRowTree}
+use Rattle.gcx_model.specs.Core.{OperandTree, Path, Str, Num, CondTree, CondTrees, Always, Exists, Compare, Not, AllOf, AnyOf, no_cond, more_conds, ItemTree, Write, Copy, For, If, SignOff, BodyTree, Nil, Then, RoleRowTree}
 use Rattle.gcx_model.specs.Cores.{Good}
 use Rattle.gcx_model.specs.PlanView.{role_row_tree}
 use Rattle.gcx_model.specs.Roles.{operand_rows, cond_rows, conds_rows, item_rows, rows, roles_of}
@@ -36,8 +36,8 @@ mutual
   cond_none (Exists x steps) = refl
   cond_none (Compare l rel r) = own_vars_more (operand_rows l) (operand_rows r) ∙ (λ i. operand_none l i ++ operand_none r i)
   cond_none (Not c) = cond_none c
-  cond_none (All cs) = conds_none cs
-  cond_none (Any cs) = conds_none cs
+  cond_none (AllOf cs) = conds_none cs
+  cond_none (AnyOf cs) = conds_none cs
 
   conds_none : (cs : CondTrees) → own_vars (conds_rows cs) ≡ []
   conds_none no_cond = refl
@@ -50,7 +50,7 @@ mutual
   item_own (For x y s d) = ap (λ (xs : List ℕ). x ∷ xs) (body_own d)
   item_own (If c a b) =
       own_vars_more (cond_rows c) (rows a ++ rows b) ∙ ((λ i. cond_none c i ++ own_vars (rows a ++ rows b)) ∙ (own_vars_more (rows a) (rows b) ∙ (λ i. body_own a i ++ body_own b i)))
-  item_own (Off o) = refl
+  item_own (SignOff o) = refl
 
   body_own : (d : BodyTree) → own_vars (rows d) ≡ vars d
   body_own Nil = refl

@@ -1,7 +1,7 @@
 -- Each role is of one of the core's variables, and the role Own of a variable has no tail.
 use Rattle.std.proofs.Common.{ℕ, zero, suc, ◌≡◌, ◌+◌, ◌<◌, inl, inr, Bool, true, false, List, [], ◌∷◌, ◌++◌, length, refl, subst, arith}
 use Rattle.gcx_model.specs.Members.{In, count}
-use Rattle.gcx_model.specs.Core.{OperandTree, Path, Str, Num, CondTree, CondTrees, Always, Exists, Compare, Not, All, Any, no_cond, more_conds, ItemTree, Write, Copy, For, If, Off, BodyTree, Nil, Then, RoleRowTree}
+use Rattle.gcx_model.specs.Core.{OperandTree, Path, Str, Num, CondTree, CondTrees, Always, Exists, Compare, Not, AllOf, AnyOf, no_cond, more_conds, ItemTree, Write, Copy, For, If, SignOff, BodyTree, Nil, Then, RoleRowTree}
 use Rattle.gcx_model.specs.Cores.{operand_in, cond_in, conds_in, ItemIn, BodyIn, Good}
 use Rattle.gcx_model.specs.Roles.{operand_rows, cond_rows, conds_rows, item_rows, rows, roles_of}
 use Rattle.gcx_model.specs.Placed.{is_own_kind}
@@ -52,8 +52,8 @@ mutual
   cond_fits n L (Exists x steps) k h = (record { below = k x h; bare = λ e. absurd (cc) }, tt)
   cond_fits n L (Compare l rel r) k h = both_fit n (operand_rows l) (operand_rows r) (operand_fits n L l k h.0) (operand_fits n L r k h.1)
   cond_fits n L (Not c) k h = cond_fits n L c k h
-  cond_fits n L (All cs) k h = conds_fit n L cs k h
-  cond_fits n L (Any cs) k h = conds_fit n L cs k h
+  cond_fits n L (AllOf cs) k h = conds_fit n L cs k h
+  cond_fits n L (AnyOf cs) k h = conds_fit n L cs k h
 
   conds_fit : (n : ℕ) (L : List ℕ) (cs : CondTrees) → AllBelow n L → conds_in L cs → AllFit n (conds_rows cs)
   conds_fit n L no_cond k h = tt
@@ -68,7 +68,7 @@ mutual
   item_fits n b L (If c d e) k v h =
       both_fit n (cond_rows c) (rows d ++ rows e) (cond_fits n L c k h.0)
       (both_fit n (rows d) (rows e) (body_fits n false L d k (left_below n (vars d) (vars e) v) h.1) (body_fits n false L e k (right_below n (vars d) (vars e) v) h.2))
-  item_fits n b L (Off o) k v h = tt
+  item_fits n b L (SignOff o) k v h = tt
 
   body_fits : (n : ℕ) (b : Bool) (L : List ℕ) (d : BodyTree) → AllBelow n L → AllBelow n (vars d) → BodyIn b L d → AllFit n (rows d)
   body_fits n b L Nil k v h = tt

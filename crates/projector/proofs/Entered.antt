@@ -8,8 +8,8 @@ use Rattle.std.proofs.lemmas.Bool.{and_from, eqb-true, false≢true, false_from_
 use Rattle.gcx_base.specs.Kinds.{is_text}
 use Rattle.gcx_base.specs.declared.ids.Role.{Role}
 use Rattle.gcx_base.specs.declared.kind.Kind.{Kind}
-use Rattle.gcx_model.specs.Tree.{Node, Under, serial_of, Token, grow}
-use Rattle.gcx_model.specs.Core.{RoleKind, Whole, OffTree}
+use Rattle.gcx_model.specs.Tree.{Node, Under, serial_of, TreeToken, grow}
+use Rattle.gcx_model.specs.Core.{RoleTarget, Whole, OffTree}
 use Rattle.gcx_model.specs.Run.{Action, Offed}
 use Rattle.gcx_model.specs.Placed.{is_empty, is_own, is_own_kind, offs_in}
 use Rattle.gcx_model.specs.Growth.{may_come, level}
@@ -152,7 +152,7 @@ none_less (x ∷ xs) = ap (λ (z : List ℕ). x ∷ z) (none_less xs)
 plain_roles : (m : MatcherView) (roles kept : FinSet nat_cmp) (count : ℕ) → (g : GivesPlainly m roles kept count) → roles ≡ new_roles g.gives.given []
 plain_roles m roles kept count g = g.gives.is ∙ ap (λ (z : List ℕ). from_list {R = nat_cmp} z) (sym (none_less (numbers g.gives.given)))
 
-plain_left : (m : MatcherView) (roles kept : FinSet nat_cmp) (count : ℕ) → (g : GivesPlainly m roles kept count) → (past : Past) (t : Token) → GivenTo past t g.gives.given [] → LeftTo past t roles
+plain_left : (m : MatcherView) (roles kept : FinSet nat_cmp) (count : ℕ) → (g : GivesPlainly m roles kept count) → (past : Past) (t : TreeToken) → GivenTo past t g.gives.given [] → LeftTo past t roles
 plain_left m roles kept count g past t to = subst (λ (s : FinSet nat_cmp). LeftTo past t s) (sym (plain_roles m roles kept count g)) (left_given past t g.gives.given [] to)
 
 pub entered_plainly : (m : MatcherView) (v w : View) (q : ℕ) (kind : Kind) (place : Option Place) (roles kept : FinSet nat_cmp) (count : ℕ) → GivesPlainly m roles kept count → OpenedWith v w q (option_map (λ (p : Place). p.0) place) kind roles 0
@@ -171,7 +171,7 @@ entered_plainly m v w q kind place roles kept count g opened stands = record {
 heard_signed : (past : Past) (s : OffTree) (b : Node) → s.kind ≡ Whole → In b (open_nodes past.tree) → signed past.acts s b ≡ true → signed (filter (is_ahead past.tree) past.acts) s b ≡ true
 heard_signed past s b whole i h =
     let a : Action = Offed s (serial_of b) in
-    let other : is_own s ≡ false = ap (λ (k : RoleKind). is_own_kind k && is_empty s.rel) whole in
+    let other : is_own s ≡ false = ap (λ (k : RoleTarget). is_own_kind k && is_empty s.rel) whole in
     let ahead : is_ahead past.tree a ≡ true = and_from _ _ (open_is past.tree.at b i) (ap not other) in
     (signed_is_off (filter (is_ahead past.tree) past.acts) s b).1 (In-kept (is_ahead past.tree) a past.acts ((signed_is_off past.acts s b).0 h) ahead)
 

@@ -4,14 +4,14 @@ use Rattle.std.specs.Prelude.{option_map, is_some, IsSome, Result, Ok, Err, IfOk
 use Rattle.gcx_base.specs.declared.memory.Memory.{Memory}
 use Rattle.projector.specs.declared.projector.Fed.{Fed}
 use Rattle.projector.specs.declared.projector.Tally.{Tally}
-use Rattle.projector.specs.declared.projector.Fed.TheVariants.{Opened, Closed}
+use Rattle.projector.specs.declared.projector.Fed.TheVariants as outcomes
 use Rattle.std.specs.FinSet as set
 use Rattle.std.proofs.lemmas.Bool.{false≢true}
 use Rattle.gcx_base.specs.declared.kind.Kind.{Kind}
 use Rattle.gcx_base.specs.declared.kind.Kind.TheVariants.{Document, Element, Text}
 use Rattle.gcx_base.specs.declared.ids.Role.{Role}
 use Rattle.gcx_base.specs.declared.ids.Serial.{Serial}
-use Rattle.gcx_model.specs.Tree.{Node, Under, serial_of, Tree, Token, Start, Chars, End, grow, grow_at}
+use Rattle.gcx_model.specs.Tree.{Node, Under, serial_of, Tree, TreeToken, Start, Chars, End, grow, grow_at}
 use Rattle.gcx_model.specs.Run.{Action}
 use Rattle.gcx_model.specs.Held.{roles_given}
 use Rattle.gcx_model.specs.Growth.{may_come, level}
@@ -37,7 +37,7 @@ use Rattle.projector.proofs.Grown.{behind, added_then, opens, heard_here, projec
 use Rattle.projector.proofs.Places.{Up, below_nodes, element_place, shallow, text_place}
 
 -- the matcher hears of all that waits
-pub hears : (m0 m : MatcherView) (v : View) (ws : List Ahead) → ws ≡ v.waiting → HearsOf m0 m ws → (past : Past) → StandsFor v past → MatcherAt m0 (heard past) false → (t : Token) → may_come t past.tree ≡ true → HasHeard m past
+pub hears : (m0 m : MatcherView) (v : View) (ws : List Ahead) → ws ≡ v.waiting → HearsOf m0 m ws → (past : Past) → StandsFor v past → MatcherAt m0 (heard past) false → (t : TreeToken) → may_come t past.tree ≡ true → HasHeard m past
 hears m0 m v ws e told past h q t c =
     let a = is_open past.tree t c in
     let r = reopened_same past.tree a.0 a.1 in
@@ -50,7 +50,7 @@ hears m0 m v ws e told past h q t c =
     }
 
 -- so behind a past behind which the token may come it may once the matcher has heard of them
-pub may_heard : (p : ProjectorView) (m0 m : MatcherView) (v : View) (ws : List Ahead) (t : Token) → m0 ≡ p.matcher → ws ≡ v.waiting → HearsOf m0 m ws → MayBeFed (Projects p) v t → MayBeFed (HasHeard m) v t
+pub may_heard : (p : ProjectorView) (m0 m : MatcherView) (v : View) (ws : List Ahead) (t : TreeToken) → m0 ≡ p.matcher → ws ≡ v.waiting → HearsOf m0 m ws → MayBeFed (Projects p) v t → MayBeFed (HasHeard m) v t
 may_heard p m0 m v ws t is e told may = record {
   past = may.past;
   stands = may.stands;
@@ -118,7 +118,7 @@ module _ (old now : ProjectorView) (between : MatcherView) (v w : View) (parent 
   low_here : (past : Past) → StandsFor v past → may_come (token_for kind) past.tree ≡ true → (n : Node) → past.tree.at ≡ Some n → level n ≤ 1000
   low_here past h m = let a = is_open past.tree (token_for kind) m in shallow_one past.tree a.0 a.1 (shallow v past h a.0 a.1 depth)
 
-  pub node_feeds : (s : Serial) → s.0 ≡ v.nodes → Feeds (HasHeard old.matcher) now v w (token_for kind) (Opened s given)
+  pub node_feeds : (s : Serial) → s.0 ≡ v.nodes → Feeds (HasHeard old.matcher) now v w (token_for kind) (outcomes.Opened s given)
   node_feeds s e = record {
     stands = λ past h heard m. (projects_node past h.is_past kind k m now none old.matcher heard between (low_here past h m) o.matcher text element, o.stands past h heard m);
     place = node_place old.at place now.at v w parent here there kind given (HasHeard old.matcher) o.opened kept text_place element_place;
@@ -144,9 +144,9 @@ projects_end p none m v past h c (Some pl) (inr (n, s, k, e, d, i, f, g)) up sta
     projects_fed p none past h.is_past End c n (ap (λ z. (grow_at z End past.tree).at) e)
     (up refl (ahead_in past.tree past.acts past) n s k (heard_here m past (Under n s k) e heard) e)
 
-module _ (stood now : Past → Type 0) (v w : View) (t : Token) (are : (past : Past) → StandsFor v past → now past → may_come t past.tree ≡ true → stood past) where
+module _ (stood now : Past → Type 0) (v w : View) (t : TreeToken) (are : (past : Past) → StandsFor v past → now past → may_come t past.tree ≡ true → stood past) where
   changed_alike : (fed : Fed) → Changes stood v w t fed → Changes now v w t fed
-  changed_alike (Opened s given) c = record {
+  changed_alike (outcomes.Opened s given) c = record {
     parent = c.parent;
     below = c.below;
     kind = c.kind;
@@ -158,11 +158,11 @@ module _ (stood now : Past → Type 0) (v w : View) (t : Token) (are : (past : P
       between = c.opened.between;
       opened = c.opened.opened;
       cleared = c.opened.cleared;
-      taken = λ past n h q may o. c.opened.taken past n h (are past h q (subst (λ (z : Token). may_come z past.tree ≡ true) c.token may)) may o;
+      taken = λ past n h q may o. c.opened.taken past n h (are past h q (subst (λ (z : TreeToken). may_come z past.tree ≡ true) c.token may)) may o;
     };
     serial = c.serial;
   }
-  changed_alike (Closed s) c = c
+  changed_alike (outcomes.Closed s) c = c
 
   -- what holds of pasts holds of those that are among them
   fed_alike : (p : ProjectorView) (fed : Fed) → Feeds stood p v w t fed → Feeds now p v w t fed
@@ -174,7 +174,7 @@ module _ (stood now : Past → Type 0) (v w : View) (t : Token) (are : (past : P
   }
 
 -- where the matcher hears of all that waits, what holds of the pasts of which it has heard holds of those for which the projector stood
-pub feeds_heard : (p q : ProjectorView) (m0 m : MatcherView) (v w : View) (ws : List Ahead) (t : Token) (r : Result Fed Memory) → m0 ≡ p.matcher → ws ≡ v.waiting → HearsOf m0 m ws
+pub feeds_heard : (p q : ProjectorView) (m0 m : MatcherView) (v w : View) (ws : List Ahead) (t : TreeToken) (r : Result Fed Memory) → m0 ≡ p.matcher → ws ≡ v.waiting → HearsOf m0 m ws
     → IfOk r (λ fed. Feeds (HasHeard m) q v w t fed) → IfOk r (λ fed. Feeds (Projects p) q v w t fed)
 feeds_heard p q m0 m v w ws t (Ok fed) is e told f =
     let told' : HearsOf p.matcher m ws = subst (λ (z : MatcherView). HearsOf z m ws) is told in
@@ -182,7 +182,7 @@ feeds_heard p q m0 m v w ws t (Ok fed) is e told f =
 feeds_heard p q m0 m v w ws t (Err x) is e told f = f
 
 -- the same with the tally
-pub tallies_heard : (p q : ProjectorView) (m0 m : MatcherView) (v w : View) (ws : List Ahead) (t : Token) (r : Result Tally Memory) → m0 ≡ p.matcher → ws ≡ v.waiting → HearsOf m0 m ws
+pub tallies_heard : (p q : ProjectorView) (m0 m : MatcherView) (v w : View) (ws : List Ahead) (t : TreeToken) (r : Result Tally Memory) → m0 ≡ p.matcher → ws ≡ v.waiting → HearsOf m0 m ws
     → IfOk r (λ y. Tallies (HasHeard m) q v w t y) → IfOk r (λ y. Tallies (Projects p) q v w t y)
 tallies_heard p q m0 m v w ws t (Ok y) is e told f = record { fed = f.fed; feeds = feeds_heard p q m0 m v w ws t (Ok f.fed) is e told f.feeds; is = f.is }
 tallies_heard p q m0 m v w ws t (Err x) is e told f = f

@@ -6,7 +6,7 @@ use Rattle.std.proofs.lemmas.Bool.{false≢true}
 use Rattle.gcx_base.specs.declared.kind.Kind.{Kind}
 use Rattle.gcx_base.specs.declared.kind.Kind.TheVariants.{Document, Element, Text}
 use Rattle.gcx_base.specs.declared.ids.Role.{Role}
-use Rattle.gcx_model.specs.Tree.{Node, Root, Under, Tree, Token, Start, Chars, End, grow, grow_at}
+use Rattle.gcx_model.specs.Tree.{Node, Root, Under, Tree, TreeToken, Start, Chars, End, grow, grow_at}
 use Rattle.gcx_model.specs.Members.{In, count}
 use Rattle.gcx_model.specs.Held.{taken, roles_taken, roles_given}
 use Rattle.gcx_model.specs.Growth.{may_come}
@@ -40,10 +40,10 @@ filter_twice p q (x ∷ xs) h = go (p x) refl (q x) refl (filter_twice p q xs (�
     go false e false f k = k ∙ sym (ap (λ c. cond c (x ∷ filter q xs) (filter q xs)) f)
 
 -- a list's last part is the one behind the first
-pub behind : (t : Token) (P : Tree) → drop (length P.nodes) (grow t P).nodes ≡ added t P
+pub behind : (t : TreeToken) (P : Tree) → drop (length P.nodes) (grow t P).nodes ≡ added t P
 behind t P = ap (drop (length P.nodes)) (grow_nodes t P) ∙ drop-append_seam P.nodes (added t P)
 
-module _ (past : Past) (is : IsPast past) (t : Token) where
+module _ (past : Past) (is : IsPast past) (t : TreeToken) where
   abbrev P : Tree
   P = past.tree
 
@@ -110,17 +110,17 @@ module _ (past : Past) (is : IsPast past) (kind : Kind) (k : IsNode kind) (m : m
       ]
 
 -- behind a token
-pub heard_fed : (past : Past) (t : Token) → heard (past_fed t past) ≡ ahead_in (reopened (grow t past.tree)) past.acts past
+pub heard_fed : (past : Past) (t : TreeToken) → heard (past_fed t past) ≡ ahead_in (reopened (grow t past.tree)) past.acts past
 heard_fed past t = ap (λ A. ahead_in (reopened (grow t past.tree)) A past) (take-length past.acts)
 
 -- Where a node is open then, the matcher that stands for the new tree with all that was in advance before the token stands for what is in advance behind it.
-pub matcher_fed : (q : MatcherView) (past : Past) → IsPast past → (t : Token) → may_come t past.tree ≡ true → (a : Node) → (grow t past.tree).at ≡ Some a
+pub matcher_fed : (q : MatcherView) (past : Past) → IsPast past → (t : TreeToken) → may_come t past.tree ≡ true → (a : Node) → (grow t past.tree).at ≡ Some a
     → MatcherAt q (past_grown t (ahead_in past.tree past.acts past)) false → MatcherAt q (heard (past_fed t past)) false
 matcher_fed q past is t m a e s =
     subst (λ (z : Past). MatcherAt q z false) (sym (heard_fed past t ∙ ap (λ T. ahead_in T past.acts past) (reopened_same (grow t past.tree) a e)))
     (moved q (past_grown t (ahead_in past.tree past.acts past)) (filter (is_ahead (grow t past.tree)) past.acts) s (fewer (past_fed t past) (past_feeds past is t m)) (signed_behind past is t))
 
-pub projects_fed : (p : ProjectorView) → p.passed ≡ [] → (past : Past) → IsPast past → (t : Token) → may_come t past.tree ≡ true → (a : Node) → (grow t past.tree).at ≡ Some a
+pub projects_fed : (p : ProjectorView) → p.passed ≡ [] → (past : Past) → IsPast past → (t : TreeToken) → may_come t past.tree ≡ true → (a : Node) → (grow t past.tree).at ≡ Some a
     → MatcherAt p.matcher (past_grown t (ahead_in past.tree past.acts past)) false → Projects p (past_fed t past)
 projects_fed p none past is t m a e s = record { matcher = matcher_fed p.matcher past is t m a e s; none = none }
 

@@ -7,7 +7,7 @@ use Rattle.gcx_base.specs.Kinds.{is_text}
 use Rattle.gcx_base.specs.declared.memory.Memory.{Memory}
 use Rattle.gcx_base.specs.declared.kind.Kind.{Kind}
 use Rattle.gcx_base.specs.declared.kind.Kind.TheVariants.{Element, Text}
-use Rattle.gcx_model.specs.Tree.{Node, Root, Under, serial_of, Token, Start, Chars, End, grow_at}
+use Rattle.gcx_model.specs.Tree.{Node, Root, Under, serial_of, TreeToken, Start, Chars, End, grow_at}
 use Rattle.gcx_model.specs.Members.{In}
 use Rattle.gcx_model.specs.Growth.{may_come, level}
 use Rattle.gcx_model.specs.Past.{Past, IsPast, IsNode, past_fed, past_grown, token_for}
@@ -113,7 +113,7 @@ makes_same bytes p v w (Err m) e =
 
 module _ (bytes : List ℕ) (p : ProjectorView) (m : MatcherView) (v : View) (ws : List Ahead) (waits : ws ≡ v.waiting) (told : HearsOf p.matcher m ws) where
   -- the matcher hears of all that waits
-  pub late_heard : (past : Past) → StandLoosely bytes p v past → (t : Token) → may_come t past.tree ≡ true → HasHeard m past
+  pub late_heard : (past : Past) → StandLoosely bytes p v past → (t : TreeToken) → may_come t past.tree ≡ true → HasHeard m past
   late_heard past st t may = hears p.matcher m (with_passed (places_of (passed_in bytes p.passed)) (passed_in bytes p.passed) v) ws waits told past (some_rows (passed_in bytes p.passed) v past st.buffer) st.matcher t may
 
   -- so the node that it went to may be opened
@@ -158,7 +158,7 @@ module _ (bytes : List ℕ) (p : ProjectorView) (m : MatcherView) (v : View) (ws
   }
 
   module _ (deep : Loosely IsShallow (passed_in bytes p.passed) v) (m' : MatcherView) (kind : Kind) (k : IsNode kind) (behind : StandsBehind m m' kind) where
-    abbrev t : Token
+    abbrev t : TreeToken
     t = token_for kind
 
     late_low : (past : Past) → StandLoosely bytes p v past → may_come t past.tree ≡ true → (n : Node) → past.tree.at ≡ Some n → level n ≤ 1000
@@ -319,19 +319,19 @@ exact_stand bytes p v past pr h = record {
 
 -- ---- whichever way a token was fed
 
-pub late_stands : (bytes : List ℕ) (p q : ProjectorView) (v w : View) (t : Token) (answer : Option Tally) → FeedsLate bytes p q v w t answer → (past : Past) → StandLoosely bytes p v past → may_come t past.tree ≡ true → StandLoosely bytes q w (past_fed t past)
+pub late_stands : (bytes : List ℕ) (p q : ProjectorView) (v w : View) (t : TreeToken) (answer : Option Tally) → FeedsLate bytes p q v w t answer → (past : Past) → StandLoosely bytes p v past → may_come t past.tree ≡ true → StandLoosely bytes q w (past_fed t past)
 late_stands bytes p q v w t None f past st may = f.stands past st may
 late_stands bytes p q v w t (Some y) f past st may =
     let s = f.settles.stands past st in
     let r = f.feeds.feeds.stands past s.1 s.0 may in
     exact_stand bytes q w (past_fed t past) r.0 r.1
 
-passed_rows : (bytes : List ℕ) (xs ys : List PassedName) (v w : View) (t : Token) → PassedBy bytes xs ys v w t → w.rows ≡ v.rows
+passed_rows : (bytes : List ℕ) (xs ys : List PassedName) (v w : View) (t : TreeToken) → PassedBy bytes xs ys v w t → w.rows ≡ v.rows
 passed_rows bytes xs ys v w (Start name) c = ap (λ (z : View). z.rows) c.0
 passed_rows bytes xs ys v w (Chars text) c = ap (λ (z : View). z.rows) c.0
 passed_rows bytes xs ys v w End c = ap (λ (z : View). z.rows) c.0
 
-pub late_place : (bytes : List ℕ) (p q : ProjectorView) (v w : View) (t : Token) (answer : Option Tally) → FeedsLate bytes p q v w t answer → Places p v → Places q w
+pub late_place : (bytes : List ℕ) (p q : ProjectorView) (v w : View) (t : TreeToken) (answer : Option Tally) → FeedsLate bytes p q v w t answer → Places p v → Places q w
 late_place bytes p q v w t None f k =
     subst (λ (rows : List Cell). KeepsPlace q.at rows) (sym (passed_rows bytes p.passed q.passed v w t f.changes)) (subst (λ (o : Option Place). KeepsPlace o v.rows) (sym f.place) k)
 late_place bytes p q v w t (Some y) f k = f.feeds.feeds.place

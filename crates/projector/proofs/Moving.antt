@@ -2,7 +2,7 @@
 use Rattle.std.proofs.Common.{◌≡◌, false, not, List, sym, ◌∙◌, subst, Option}
 use Rattle.std.specs.List.{filter}
 use Rattle.std.proofs.lemmas.Bool.{and_parts, and_from, false≢true}
-use Rattle.gcx_model.specs.Tree.{Node, serial_of, above, Tree, Token, grow, is_open_at}
+use Rattle.gcx_model.specs.Tree.{Node, serial_of, above, Tree, TreeToken, grow, is_open_at}
 use Rattle.gcx_model.specs.Members.{In}
 use Rattle.gcx_model.specs.Core.{OffTree}
 use Rattle.gcx_model.specs.Run.{Action, Offed}
@@ -52,7 +52,7 @@ moved m past A h is same = record {
     back s q = record { off = q.off; of = q.of; role = q.role; steps = q.steps; node = q.node; among = q.among; at = q.at; is = same q.off q.node (opened q.node q.among) ∙ q.is }
 
 -- At a node that is open behind a token the same is signed in advance before it.
-pub signed_behind : (past : Past) → IsPast past → (t : Token) → SameSigned (grow t past.tree) (filter (is_ahead past.tree) past.acts) (filter (is_ahead (grow t past.tree)) past.acts)
+pub signed_behind : (past : Past) → IsPast past → (t : TreeToken) → SameSigned (grow t past.tree) (filter (is_ahead past.tree) past.acts) (filter (is_ahead (grow t past.tree)) past.acts)
 signed_behind past is t o n i = same_bools _ _
     (λ h. let j = In-filter (is_ahead past.tree) (Offed o (serial_of n)) past.acts ((signed_is_off _ o n).0 h) in
     (signed_is_off _ o n).1 (In-kept (is_ahead (grow t past.tree)) (Offed o (serial_of n)) past.acts j.0

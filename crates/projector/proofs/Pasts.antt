@@ -1,7 +1,7 @@
 -- The pasts that matchers have behind them.
 use Rattle.std.proofs.Common.{◌≡◌, true, refl, sym, ◌∙◌, ap, arith, Some, None, Option}
 use Rattle.std.proofs.lemmas.Bool.{false≢true}
-use Rattle.gcx_model.specs.Tree.{Node, Tree, Token}
+use Rattle.gcx_model.specs.Tree.{Node, Tree, TreeToken}
 use Rattle.gcx_model.specs.Run.{Offed}
 use Rattle.gcx_model.specs.Growth.{may_come, may_come_at}
 use Rattle.gcx_model.specs.Past.{Past, IsPast, is_ahead, reopen, reopened}
@@ -10,7 +10,7 @@ use Rattle.tree_laws.proofs.Growing.{tree_same}
 use Rattle.projector.specs.Projector.{ahead_in}
 
 -- some node is open where a token may come
-pub is_open : (P : Tree) (t : Token) → may_come t P ≡ true → (a : Node) × (P.at ≡ Some a)
+pub is_open : (P : Tree) (t : TreeToken) → may_come t P ≡ true → (a : Node) × (P.at ≡ Some a)
 is_open P t m = go P.at refl m
   where
     go : (o : Option Node) → P.at ≡ o → may_come_at o t P.nodes ≡ true → (a : Node) × (P.at ≡ Some a)

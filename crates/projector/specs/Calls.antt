@@ -1,7 +1,7 @@
 -- What a projector's calls made, a record or a statement for each call (this project's).
 use Rattle.std.specs.Prelude.{◌≡◌, true, List, length}
 use Rattle.gcx_base.specs.declared.ids.Role.{Role}
-use Rattle.gcx_model.specs.Tree.{Root, Token}
+use Rattle.gcx_model.specs.Tree.{Root, TreeToken}
 use Rattle.gcx_model.specs.Core.{PlanTree, BodyTree}
 use Rattle.gcx_model.specs.Cores.{Good}
 use Rattle.gcx_model.specs.Placed.{Placed}
@@ -12,7 +12,7 @@ use Rattle.buf_tree.specs.View.{View}
 use Rattle.buf_tree.specs.Calls.{Started, numbers}
 use Rattle.buf_tree.specs.Stands.{StandsFor}
 use Rattle.projector.specs.declared.projector.Fed.{Fed}
-use Rattle.projector.specs.declared.projector.Fed.TheVariants.{Opened, Closed}
+use Rattle.projector.specs.declared.projector.Fed.TheVariants as outcomes
 use Rattle.projector.specs.declared.projector.Tally.{Tally}
 use Rattle.projector.specs.declared.projector.Tally.TheVariants as tallies
 use Rattle.projector.specs.View.{ProjectorView}
@@ -29,7 +29,7 @@ GivesDocument p given = (past : Past) → Projects p past → numbers given ≡ 
 
 -- `feed_token`: where projector and buffer stood for a past, they stand for it with the token, and the place is kept; what the
 -- token did is answered, and is all that it made of the buffer. `stood` says of which pasts the projector stood.
-pub record Feeds (stood : Past → Type 0) (p : ProjectorView) (v w : View) (t : Token) (answer : Fed) : Type 0 where
+pub record Feeds (stood : Past → Type 0) (p : ProjectorView) (v w : View) (t : TreeToken) (answer : Fed) : Type 0 where
   pub stands : (past : Past) → StandsFor v past → stood past → may_come t past.tree ≡ true
       → Projects p (past_fed t past) × StandsFor w (past_fed t past)
   pub place : Places p w
@@ -38,11 +38,11 @@ pub record Feeds (stood : Past → Type 0) (p : ProjectorView) (v w : View) (t :
 
 -- the number of the roles alone
 abbrev pub tally_of : Fed → Tally
-tally_of (Opened s given) = tallies.Opened (length given)
-tally_of (Closed s) = tallies.Closed
+tally_of (outcomes.Opened s given) = tallies.Opened (length given)
+tally_of (outcomes.Closed s) = tallies.Closed
 
 -- the same, with the tally of what the token did
-pub record Tallies (stood : Past → Type 0) (p : ProjectorView) (v w : View) (t : Token) (tally : Tally) : Type 0 where
+pub record Tallies (stood : Past → Type 0) (p : ProjectorView) (v w : View) (t : TreeToken) (tally : Tally) : Type 0 where
   pub fed : Fed
   pub feeds : Feeds stood p v w t fed
   pub is : tally ≡ tally_of fed

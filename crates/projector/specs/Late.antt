@@ -1,7 +1,7 @@
 -- What a projector and a buffer stand for where rows are made late, and what the calls make of them (this project's).
 use Rattle.std.specs.Prelude.{◌≡◌, ◌≤◌, ℕ, true, false, List, [], ◌∷◌, ◌++◌, length, map, max, slice_range, IsUtf8, Option, Some, None}
 use Rattle.gcx_base.specs.Name.{IsNameBytes}
-use Rattle.gcx_model.specs.Tree.{Token, Start, Chars, End}
+use Rattle.gcx_model.specs.Tree.{TreeToken, Start, Chars, End}
 use Rattle.gcx_model.specs.Members.{In}
 use Rattle.gcx_model.specs.Growth.{may_come}
 use Rattle.gcx_model.specs.Past.{Past, past_fed}
@@ -47,7 +47,7 @@ pub record StandLoosely (bytes : List ℕ) (p : ProjectorView) (v : View) (past 
   pub names : AreNamed bytes p.passed
 
 -- the token may come behind a past for which they stand so
-pub record MayBeFedLate (bytes : List ℕ) (p : ProjectorView) (v : View) (t : Token) : Type 0 where
+pub record MayBeFedLate (bytes : List ℕ) (p : ProjectorView) (v : View) (t : TreeToken) : Type 0 where
   pub past : Past
   pub stand : StandLoosely bytes p v past
   pub may : may_come t past.tree ≡ true
@@ -96,27 +96,27 @@ abbrev pub cleared : View → View
 cleared v = record v { waiting = [] }
 
 -- the token passed an element or a text, or ended the innermost passed element
-abbrev pub PassedBy : (bytes : List ℕ) → (xs ys : List PassedName) → (v w : View) → Token → Type 0
+abbrev pub PassedBy : (bytes : List ℕ) → (xs ys : List PassedName) → (v w : View) → TreeToken → Type 0
 PassedBy bytes xs ys v w (Start name) =
     (w ≡ one_passed (cleared v)) × (x : PassedName) × (ys ≡ xs ++ x ∷ []) × (passed_of bytes x ≡ record { name = name; serial = v.nodes })
 PassedBy bytes xs ys v w (Chars text) = (w ≡ one_passed (cleared v)) × (ys ≡ xs)
 PassedBy bytes xs ys v w End = (w ≡ cleared v) × (x : PassedName) × (xs ≡ ys ++ x ∷ [])
 
 -- The token was passed: its node is given no role, and no row was made.
-pub record PassesToken (bytes : List ℕ) (p q : ProjectorView) (v w : View) (t : Token) : Type 0 where
+pub record PassesToken (bytes : List ℕ) (p q : ProjectorView) (v w : View) (t : TreeToken) : Type 0 where
   pub stands : (past : Past) → StandLoosely bytes p v past → may_come t past.tree ≡ true → StandLoosely bytes q w (past_fed t past)
   pub none : (past : Past) → StandLoosely bytes p v past → may_come t past.tree ≡ true → GivesNone past t
   pub place : q.at ≡ p.at
   pub changes : PassedBy bytes p.passed q.passed v w t
 
 -- The rows of all passed elements were made, and then the token was fed as it always is.
-pub record FeedsSettled (bytes : List ℕ) (p q : ProjectorView) (v w : View) (t : Token) (tally : Tally) : Type 0 where
+pub record FeedsSettled (bytes : List ℕ) (p q : ProjectorView) (v w : View) (t : TreeToken) (tally : Tally) : Type 0 where
   pub settled : ProjectorView
   pub between : View
   pub settles : SettlesAll bytes p settled v between
   pub feeds : Tallies (Projects settled) q between w t tally
 
 -- what a token made where rows are made late: none is told where it was passed
-abbrev pub FeedsLate : (bytes : List ℕ) → (p q : ProjectorView) → (v w : View) → Token → Option Tally → Type 0
+abbrev pub FeedsLate : (bytes : List ℕ) → (p q : ProjectorView) → (v w : View) → TreeToken → Option Tally → Type 0
 FeedsLate bytes p q v w t (Some tally) = FeedsSettled bytes p q v w t tally
 FeedsLate bytes p q v w t None = PassesToken bytes p q v w t

@@ -2,7 +2,7 @@
 use Rattle.std.specs.Prelude.{◌≡◌, ℕ, true, false, List, [], take, filter, Option, Some, None}
 use Rattle.gcx_base.specs.declared.ids.Role.{Role}
 use Rattle.gcx_base.specs.declared.kind.Kind.{Kind}
-use Rattle.gcx_model.specs.Tree.{Tree, Token, End, Node, serial_of, grow}
+use Rattle.gcx_model.specs.Tree.{Tree, TreeToken, End, Node, serial_of, grow}
 use Rattle.gcx_model.specs.Members.{In}
 use Rattle.gcx_model.specs.Growth.{may_come}
 use Rattle.gcx_model.specs.Held.{roles_given, roles_taken}
@@ -15,7 +15,7 @@ use Rattle.buf_tree.specs.View.{View, Innermost, serial_at}
 use Rattle.buf_tree.specs.Calls.{Opened as OpenedBelow, Closed as ClosedAt, numbers}
 use Rattle.buf_tree.specs.Stands.{StandsFor}
 use Rattle.projector.specs.declared.projector.Fed.{Fed}
-use Rattle.projector.specs.declared.projector.Fed.TheVariants.{Opened, Closed}
+use Rattle.projector.specs.declared.projector.Fed.TheVariants as outcomes
 use Rattle.projector.specs.View.{ProjectorView}
 
 -- the plan over this tree, with those of the actions that are in advance there
@@ -41,16 +41,16 @@ abbrev pub Places : ProjectorView → View → Type 0
 Places p v = KeepsPlace p.at v.rows
 
 -- The token may come behind a past for which the buffer stands and the projector stood. `stood` says of which pasts it did.
-pub record MayBeFed (stood : Past → Type 0) (v : View) (t : Token) : Type 0 where
+pub record MayBeFed (stood : Past → Type 0) (v : View) (t : TreeToken) : Type 0 where
   pub past : Past
   pub stands : StandsFor v past
   pub projects : stood past
   pub may : may_come t past.tree ≡ true
 
 -- What the token did: it opened the node of this number, which is given these roles, or closed the innermost open one.
-abbrev pub DoesBy : Fed → Token → Past → Type 0
-DoesBy (Opened s given) t past = (n : Node) × Opens past.tree t n × (serial_of n ≡ s.0) × (numbers given ≡ roles_given past.plan (grow t past.tree) n)
-DoesBy (Closed s) t past = (n : Node) × (t ≡ End) × (past.tree.at ≡ Some n) × (serial_of n ≡ s.0)
+abbrev pub DoesBy : Fed → TreeToken → Past → Type 0
+DoesBy (outcomes.Opened s given) t past = (n : Node) × Opens past.tree t n × (serial_of n ≡ s.0) × (numbers given ≡ roles_given past.plan (grow t past.tree) n)
+DoesBy (outcomes.Closed s) t past = (n : Node) × (t ≡ End) × (past.tree.at ≡ Some n) × (serial_of n ≡ s.0)
 
 -- A node was opened below the place q, without those of its roles that are taken in advance, and nothing waits any more.
 -- `stood` says of which pasts the projector stood.
@@ -63,7 +63,7 @@ pub record OpenedAlone (stood : Past → Type 0) (v w : View) (q : ℕ) (at : Op
       → numbers ahead ≡ roles_taken past.plan (grow (token_for kind) past.tree) past.acts n
 
 -- the token opened a node below the innermost open one
-pub record OpenedOne (stood : Past → Type 0) (v w : View) (t : Token) (s : ℕ) (given : List Role) : Type 0 where
+pub record OpenedOne (stood : Past → Type 0) (v w : View) (t : TreeToken) (s : ℕ) (given : List Role) : Type 0 where
   pub parent : ℕ
   pub below : Innermost v.rows parent
   pub kind : Kind
@@ -81,6 +81,6 @@ pub record ClosedOne (v w : View) (s : ℕ) : Type 0 where
   pub serial : s ≡ serial_at place v.rows
 
 -- what the token made of the buffer
-abbrev pub Changes : (Past → Type 0) → View → View → Token → Fed → Type 0
-Changes stood v w t (Opened s given) = OpenedOne stood v w t s.0 given
-Changes stood v w t (Closed s) = (t ≡ End) × ClosedOne v w s.0
+abbrev pub Changes : (Past → Type 0) → View → View → TreeToken → Fed → Type 0
+Changes stood v w t (outcomes.Opened s given) = OpenedOne stood v w t s.0 given
+Changes stood v w t (outcomes.Closed s) = (t ≡ End) × ClosedOne v w s.0

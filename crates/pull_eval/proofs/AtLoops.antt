@@ -13,7 +13,7 @@ use Rattle.gcx_model.specs.Roles.{cond_rows, operand_rows}
 use Rattle.gcx_model.specs.Truth.{Env, bind_var}
 use Rattle.gcx_model.specs.Held.{gives, is_held}
 use Rattle.gcx_model.specs.Past.{Past}
-use Rattle.gcx_model.specs.Points.{so_far, Frame, Rest, Round, Part, PointAt, Bound_in}
+use Rattle.gcx_model.specs.Points.{so_far, Frame, Rest, LoopRound, CopyPart, PointAt, Bound_in}
 use Rattle.tree_laws.proofs.Lists.{In-filter, any_from}
 use Rattle.tree_laws.proofs.Matches.{Matches-in}
 use Rattle.tree_laws.proofs.Fed.{grown_from}
@@ -49,13 +49,13 @@ use Rattle.pull_eval.proofs.Quieting.{quiet_there}
 bound_under : (x : ℕ) (n : Node) (top fs : List Frame) → Bound_in x n fs → Bound_in x n (top ++ fs)
 bound_under x n [] fs h = h
 bound_under x n (Rest d env ∷ top) fs h = bound_under x n top fs h
-bound_under x n (Round z y s e env m ∷ top) fs h = inr (bound_under x n top fs h)
-bound_under x n (Part z env k ∷ top) fs h = bound_under x n top fs h
+bound_under x n (LoopRound z y s e env m ∷ top) fs h = inr (bound_under x n top fs h)
+bound_under x n (CopyPart z env k ∷ top) fs h = bound_under x n top fs h
 
 bound_below : (x : ℕ) (n : Node) (f : Frame) (fs : List Frame) → Bound_in x n fs → Bound_in x n (f ∷ fs)
 bound_below x n (Rest d env) fs h = h
-bound_below x n (Round z y s e env m) fs h = inr h
-bound_below x n (Part z env k) fs h = h
+bound_below x n (LoopRound z y s e env m) fs h = inr h
+bound_below x n (CopyPart z env k) fs h = h
 
 same_pair : (p s q t : ℕ) → ◌≡◌ {A = Option (ℕ × ℕ)} (Some (p, s)) (Some (q, t)) → (p ≡ q) × (s ≡ t)
 same_pair p s q t e = let h : ◌≡◌ {A = ℕ × ℕ} (p, s) (q, t) = cc in (ap (λ (z : ℕ × ℕ). z.0) h, ap (λ (z : ℕ × ℕ). z.1) h)

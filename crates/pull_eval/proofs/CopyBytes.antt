@@ -16,7 +16,7 @@ use Rattle.buf_tree.specs.View.{View}
 use Rattle.pull_eval.specs.Weight.{weight}
 use Rattle.pull_eval.specs.Acting.{Beside, Moves}
 use Rattle.pull_eval.specs.declared.machine.Acted.{Acted}
-use Rattle.pull_eval.specs.declared.machine.Acted.TheVariants.{Wrote}
+use Rattle.pull_eval.specs.declared.machine.Acted.TheVariants as outcomes
 use Rattle.pull_eval.specs.declared.position.Position.{Position}
 
 -- ---- texts aren't empty
@@ -67,12 +67,12 @@ end_some name = omega arith
 -- what the bytes that are new tell
 pub record Counted (old new : List ℕ) (a : Option Acted) : Type 0 where
   pub nothing : length new ≡ length old → a ≡ None
-  pub some : length old < length new → a ≡ Some (Wrote (length new - length old))
+  pub some : length old < length new → a ≡ Some (outcomes.Wrote (length new - length old))
 
-pub counted_by : (before : ℕ) (old new : List ℕ) (a : Option Acted) → before ≡ length old → (length new ≡ before → a ≡ None) → (before < length new → a ≡ Some (Wrote (length new - before))) → Counted old new a
+pub counted_by : (before : ℕ) (old new : List ℕ) (a : Option Acted) → before ≡ length old → (length new ≡ before → a ≡ None) → (before < length new → a ≡ Some (outcomes.Wrote (length new - before))) → Counted old new a
 counted_by before old new a e none_new some_new = record {
   nothing = λ f. none_new (f ∙ sym e);
-  some = λ l. some_new (omega arith) ∙ ap (λ (z : ℕ). Some (Wrote (length new - z))) e;
+  some = λ l. some_new (omega arith) ∙ ap (λ (z : ℕ). Some (outcomes.Wrote (length new - z))) e;
 }
 
 -- no fewer bytes are there

@@ -21,7 +21,7 @@ use Rattle.gcx_model.specs.declared.item.Item.TheViews.{out-Item, roll-Item, rol
 use Rattle.gcx_model.specs.declared.item.Item.TheFolds.{fold-roll-Item}
 use Rattle.gcx_model.specs.declared.item.Body.{Body}
 use Rattle.gcx_model.specs.declared.item.Off.{Off}
-use Rattle.gcx_model.specs.Points.{Frame, Rest, Round, PointAt, Bound_in}
+use Rattle.gcx_model.specs.Points.{Frame, Rest, LoopRound, PointAt, Bound_in}
 use Rattle.gcx_model.specs.Copying.{CopyFrame, FinePoint}
 use Rattle.gcx_model.specs.Past.{Past}
 use Rattle.move_laws.specs.Moves.{AtPoint}
@@ -71,7 +71,7 @@ top_of rows P b bs fs (alone {env = env} {fs = below} free seen rest) = record {
 }
 top_of rows P b bs fs (in_round {fs = below} r {x} {y} {s} {e} {env} {n} one round looked seen rest) = record {
   env = bind_var env x n;
-  below = Round x y s e env n ∷ below;
+  below = LoopRound x y s e env n ∷ below;
   is = refl;
   seen = seen;
   goes = λ c same k later. in_round r (same ∙ one) round (looks b.round r b.rest.now c.rest.now one k looked) later rest;
@@ -84,7 +84,7 @@ IsOff (Write b) = ⊥
 IsOff (Copy x) = ⊥
 IsOff (For x y s d) = ⊥
 IsOff (If c a b) = ⊥
-IsOff (tree.Off o) = Unit {0}
+IsOff (tree.SignOff o) = Unit {0}
 
 -- a statement as a plain tree is a statement
 off_layer : (i : Item) (l : Item-F Item Body) → i ≡ roll-Item l → IsOff (item_tree i) → (o : Off) × (i ≡ item.Off o)
@@ -97,7 +97,7 @@ off_layer i (layer.Off o) e h = (o, e ∙ rolls-Off o)
 pub off_item : (i : Item) → IsOff (item_tree i) → (o : Off) × (i ≡ item.Off o)
 off_item i h = off_layer i (out-Item i) (sym (roll-out-Item i)) h
 
-pub fold_Off : (o : Off) → item_tree (item.Off o) ≡ tree.Off (off_tree o)
+pub fold_Off : (o : Off) → item_tree (item.Off o) ≡ tree.SignOff (off_tree o)
 fold_Off o = search (rules, item_lemmas)
 
 is_off : (o : Off) → IsOff (item_tree (item.Off o))
@@ -145,7 +145,7 @@ seen_nothing P g env (Then (Write b) d) = tt
 seen_nothing P g env (Then (Copy x) d) = tt
 seen_nothing P g env (Then (For x y s e) d) = (λ m i. let q = Matches-in P (serial_of (env y)) (s ∷ []) m i in positive P g (serial_of (env y)) s m q.0 (hits_one P g (serial_of (env y)) s m q.0 q.1), inl refl)
 seen_nothing P g env (Then (If c a b) d) = tt
-seen_nothing P g env (Then (tree.Off o) d) = tt
+seen_nothing P g env (Then (tree.SignOff o) d) = tt
 
 pub begins_anew : (P : Tree) → Leads opening P → (env : Env) (d : BodyTree) (k : ℕ) → k ≡ 0 → SeenTo P env d k
 begins_anew P g env d k e = subst (λ (z : ℕ). SeenTo P env d z) (sym e) (seen_nothing P (grown_from P g) env d)

@@ -16,7 +16,7 @@ use Rattle.gcx_model.specs.declared.cond.Operand.TheVariants as operand
 use Rattle.gcx_model.specs.declared.item.Item.{Item}
 use Rattle.gcx_model.specs.declared.item.Item.TheVariants as item
 use Rattle.gcx_model.specs.declared.item.Body.{Body}
-use Rattle.gcx_model.specs.Core.{OperandTree, Path, CondTree, CondTrees, Always, Exists, Compare, Not, All, Any, no_cond, more_conds, ItemTree, Write, Copy, For, If, Off, BodyTree, Nil, Then, RoleKind, First, Whole, RoleRowTree}
+use Rattle.gcx_model.specs.Core.{OperandTree, Path, CondTree, CondTrees, Always, Exists, Compare, Not, AllOf, AnyOf, no_cond, more_conds, ItemTree, Write, Copy, For, If, SignOff, BodyTree, Nil, Then, RoleTarget, First, Whole, RoleRowTree}
 use Rattle.gcx_model.proofs.Folds.{fold_For, fold_If}
 use Rattle.gcx_model.specs.CondView.{core_cond_tree, core_conds_of, operand_tree}
 use Rattle.gcx_model.specs.ItemView.{item_tree, item_trees, body_of, body_tree}
@@ -86,7 +86,7 @@ some_asks l r (d ∷ cs) c (inr i) a = inr (some_asks l r cs c i a)
 pub member_asks : (l r : OperandTree) (c : Cond) (cs : CodeConds) (conds : List Cond) (k : ℕ) (x : Cond) → c ≡ views.All cs → map core_cond_tree conds ≡ map core_cond_tree cs.members.items → k < length conds → x ≡ get_or conds k x
     → AsksEqual l r (core_cond_tree x) → AsksEqual l r (core_cond_tree c)
 member_asks l r c cs conds k x is trees h e a =
-    subst (λ (z : CondTree). AsksEqual l r z) (sym (ap core_cond_tree is ∙ (fold_All cs ∙ ap (λ (z : List CondTree). All (core_conds_of z)) (sym trees))))
+    subst (λ (z : CondTree). AsksEqual l r z) (sym (ap core_cond_tree is ∙ (fold_All cs ∙ ap (λ (z : List CondTree). AllOf (core_conds_of z)) (sym trees))))
     (some_asks l r (map core_cond_tree conds) (core_cond_tree x) (in_conds conds k x h e) a)
 
 -- ---- rows
@@ -190,7 +190,7 @@ guarded_no_off l r (Then (Write b) e) g = absurd g.0
 guarded_no_off l r (Then (Copy x) e) g = absurd g.0
 guarded_no_off l r (Then (For z y s d) e) g = (guarded_no_off l r d g.0.2, guarded_no_off l r e g.1)
 guarded_no_off l r (Then (If c a b) e) g = (tt, guarded_no_off l r e g.1)
-guarded_no_off l r (Then (Off o) e) g = absurd g.0
+guarded_no_off l r (Then (SignOff o) e) g = absurd g.0
 
 -- ---- what is bound
 
@@ -219,10 +219,10 @@ closed_there rows bound x z p s b e tells t l q u f c i at =
 
 -- ---- rows of one path
 
-abbrev rows_at : VarId → List Step → RoleKind → List RoleRowTree
+abbrev rows_at : VarId → List Step → RoleTarget → List RoleRowTree
 rows_at x steps k = record { var = x.0; tail = steps; kind = k } ∷ []
 
-module _ (is : ℕ → Type 0) (x : VarId) (steps : List Step) (k : RoleKind) where
+module _ (is : ℕ → Type 0) (x : VarId) (steps : List Step) (k : RoleTarget) where
   one_asked : (qs : List RoleRowTree) → qs ≡ rows_at x steps k → EachAsked is qs → is x.0
   one_asked qs e h = h (record { var = x.0; tail = steps; kind = k }) (subst (λ (z : List RoleRowTree). In (record { var = x.0; tail = steps; kind = k }) z) (sym e) (inl refl))
 
@@ -304,8 +304,8 @@ abbrev mutual
   weigh_cond (Exists x steps) = 0
   weigh_cond (Compare l rel r) = 0
   weigh_cond (Not c) = suc (weigh_cond c)
-  weigh_cond (All cs) = suc (weigh_conds cs)
-  weigh_cond (Any cs) = suc (weigh_conds cs)
+  weigh_cond (AllOf cs) = suc (weigh_conds cs)
+  weigh_cond (AnyOf cs) = suc (weigh_conds cs)
 
   pub weigh_conds : CondTrees → ℕ
   weigh_conds no_cond = 0
@@ -320,11 +320,11 @@ pub member_weighs : (c : Cond) (cs : CodeConds) (xs : List Cond) (k : ℕ) (x : 
     → k < length xs → x ≡ get_or xs k x → weigh_cond (core_cond_tree x) < weigh_cond (core_cond_tree c)
 member_weighs c cs xs k x (inl e) trees low at =
     let w = cond_in (map core_cond_tree xs) (core_cond_tree x) (in_conds xs k x low at) in
-    let u = ap weigh_cond (ap core_cond_tree e ∙ (fold_All cs ∙ ap (λ (z : List CondTree). All (core_conds_of z)) (sym trees))) in
+    let u = ap weigh_cond (ap core_cond_tree e ∙ (fold_All cs ∙ ap (λ (z : List CondTree). AllOf (core_conds_of z)) (sym trees))) in
     omega (arith, w, u)
 member_weighs c cs xs k x (inr e) trees low at =
     let w = cond_in (map core_cond_tree xs) (core_cond_tree x) (in_conds xs k x low at) in
-    let u = ap weigh_cond (ap core_cond_tree e ∙ (fold_Any cs ∙ ap (λ (z : List CondTree). Any (core_conds_of z)) (sym trees))) in
+    let u = ap weigh_cond (ap core_cond_tree e ∙ (fold_Any cs ∙ ap (λ (z : List CondTree). AnyOf (core_conds_of z)) (sym trees))) in
     omega (arith, w, u)
 
 item_in_body : (xs : List ItemTree) (x : ItemTree) → In x xs → weigh_item 1 x ≤ weigh_body 1 (body_of xs)

@@ -10,7 +10,7 @@ use Rattle.gcx_model.specs.Nodes.{Rising}
 use Rattle.gcx_model.specs.Core.{For, BodyTree, Then}
 use Rattle.gcx_model.specs.Truth.{Env, bind_var}
 use Rattle.gcx_model.specs.Past.{Past}
-use Rattle.gcx_model.specs.Points.{Frame, Rest, Round, PointAt, Bound_in}
+use Rattle.gcx_model.specs.Points.{Frame, Rest, LoopRound, PointAt, Bound_in}
 use Rattle.move_laws.proofs.Moving.{first_round, no_round, loop_waits}
 use Rattle.tree_laws.proofs.Matches.{Matches-in, Matches-rising}
 use Rattle.tree_laws.proofs.Fed.{grown_from}
@@ -36,7 +36,7 @@ use Rattle.pull_eval.specs.declared.block.Round.{Round as CodeRound}
 use Rattle.pull_eval.specs.declared.block.Block.{Block}
 use Rattle.node_store.specs.declared.store.Place.{Place}
 use Rattle.pull_eval.specs.declared.position.Position.{Position}
-use Rattle.pull_eval.specs.declared.machine.Acted.TheVariants.{Blocked}
+use Rattle.pull_eval.specs.declared.machine.Acted.TheVariants as outcomes
 use Rattle.cond_eval.proofs.Rows.{kept_at, at_node, at_placed, closed_told}
 use Rattle.cond_eval.proofs.RowSteps.{from_match}
 use Rattle.pull_eval.proofs.HeldRows.{holds, held_rows}
@@ -85,7 +85,7 @@ module _ (w : Position) (v : View) (past : Past) (k : ℕ) (b : Beside w v past 
 
   module _ (mid n : Position) (goes : GoesBehind w mid after) (g : Began v mid n r) (at : NodeAt v.rows P (holds past) r.context.0 (env y)) (m : Node) (rest : List Node) (first : ms ≡ m ∷ rest) (here : NodeAt v.rows P (holds past) r.present.0 m) where
     abbrev fs : List Frame
-    fs = Rest e (bind_var env x m) ∷ Round x y s e env m ∷ Rest d env ∷ below
+    fs = Rest e (bind_var env x m) ∷ LoopRound x y s e env m ∷ Rest d env ∷ below
 
     point : PointAt past.plan P k fs
     point = first_round past.plan P k x y s e d env below m rest (at_item w v past k b (For x y s e) d next).point first
@@ -145,7 +145,7 @@ module _ (w : Position) (v : View) (past : Past) (k : ℕ) (b : Beside w v past 
 
   -- without a match, of which some may come
   pub waits : (n : Position) (u : ℕ) → n.top ≡ record w.top { seen = u } → suc u ≡ v.nodes → n.below.items ≡ w.below.items → n.env ≡ w.env → n.copying ≡ w.copying → n.turns.items ≡ w.turns.items → n.is_begun ≡ w.is_begun
-      → ms ≡ [] → is_closed P (env y) ≡ false → (out : List ℕ) → Moves past k w n v v out out (Some Blocked)
+      → ms ≡ [] → is_closed P (env y) ≡ false → (out : List ℕ) → Moves past k w n v v out out (Some outcomes.Blocked)
   waits n u top upto blocks env_is copying turns is_begun none_left open_still out =
       let a = at_item w v past k b (For x y s e) d next in
       let fs = Rest (items w.top.rest.now) env ∷ below in
@@ -217,7 +217,7 @@ module _ (w : Position) (v : View) (past : Past) (k : ℕ) (b : Beside w v past 
       passed n top round seen blocks env_is copying turns is_begun nothing (closed_is p closed told row ∙ is) out
 
   pub waits_there : (n : Position) (u : ℕ) → n.top ≡ record w.top { seen = u } → suc u ≡ v.nodes → n.below.items ≡ w.below.items → n.env ≡ w.env → n.copying ≡ w.copying → n.turns.items ≡ w.turns.items → n.is_begun ≡ w.is_begun
-      → (p : ℕ) (closed : Bool) → ToldAt p → IsFirstAt v.rows ms None → ClosedTold p closed → closed ≡ false → (out : List ℕ) → Moves past k w n v v out out (Some Blocked)
+      → (p : ℕ) (closed : Bool) → ToldAt p → IsFirstAt v.rows ms None → ClosedTold p closed → closed ≡ false → (out : List ℕ) → Moves past k w n v v out out (Some outcomes.Blocked)
   waits_there n u top upto blocks env_is copying turns is_begun p closed told nothing row is out =
       waits n u top upto blocks env_is copying turns is_begun nothing (closed_is p closed told row ∙ is) out
 

@@ -12,7 +12,7 @@ use Rattle.gcx_model.specs.Members.{In}
 use Rattle.gcx_model.specs.Core.{BodyTree, Nil}
 use Rattle.gcx_model.specs.Truth.{bind_var}
 use Rattle.gcx_model.specs.Past.{Past}
-use Rattle.gcx_model.specs.Points.{Frame, Rest, Round, later, PointAt, Bound_in}
+use Rattle.gcx_model.specs.Points.{Frame, Rest, LoopRound, later, PointAt, Bound_in}
 use Rattle.move_laws.specs.Moves.{AtPoint}
 use Rattle.tree_laws.proofs.Lists.{In-filter, In-right}
 use Rattle.tree_laws.proofs.Matches.{Matches-in}
@@ -41,7 +41,7 @@ use Rattle.pull_eval.specs.declared.block.Next.TheVariants.{Unsought, Found, Non
 use Rattle.pull_eval.specs.declared.block.Round.{Round as CodeRound}
 use Rattle.pull_eval.specs.declared.block.Block.{Block}
 use Rattle.pull_eval.specs.declared.position.Position.{Position}
-use Rattle.pull_eval.specs.declared.machine.Acted.TheVariants.{Blocked}
+use Rattle.pull_eval.specs.declared.machine.Acted.TheVariants as outcomes
 use Rattle.cond_eval.proofs.Rows.{kept_at, at_node, at_placed, closed_told}
 use Rattle.cond_eval.proofs.RowSteps.{from_match}
 use Rattle.pull_eval.proofs.HeldRows.{holds, held_rows}
@@ -82,7 +82,7 @@ module _ (w : Position) (v : View) (past : Past) (k : ℕ) (b : Beside w v past 
   e = items r.body.now
 
   abbrev frame : Frame
-  frame = Round x t.from s e t.env t.node
+  frame = LoopRound x t.from s e t.env t.node
 
   abbrev rest : Frame
   rest = Rest (items w.top.rest.now) (bind_var t.env x t.node)
@@ -176,7 +176,7 @@ module _ (w : Position) (v : View) (past : Past) (k : ℕ) (b : Beside w v past 
       here = turn_row p told
 
       abbrev fs : List Frame
-      fs = Rest e (bind_var t.env x m) ∷ Round x t.from s e t.env m ∷ t.below
+      fs = Rest e (bind_var t.env x m) ∷ LoopRound x t.from s e t.env m ∷ t.below
 
       point : PointAt past.plan P k fs
       point = rounds_pass past.plan P k (bind_var t.env x t.node) x t.from s e t.env t.node t.below told.0 m told.2 over_point told.3 told.4
@@ -224,7 +224,7 @@ module _ (w : Position) (v : View) (past : Past) (k : ℕ) (b : Beside w v past 
 
     -- the loop waits for its next match
     round_waits_now : (n : Position) (u : Watermark) → n.top ≡ record w.top { round = Some (record r { next = NoneUpTo u }) } → suc u.0 ≡ v.nodes → n.below.items ≡ w.below.items → n.env ≡ w.env → n.copying ≡ w.copying → n.turns.items ≡ w.turns.items → n.is_begun ≡ w.is_begun
-        → ms ≡ [] → is_closed P (t.env t.from) ≡ false → (out : List ℕ) → Moves past k w n v v out out (Some Blocked)
+        → ms ≡ [] → is_closed P (t.env t.from) ≡ false → (out : List ℕ) → Moves past k w n v v out out (Some outcomes.Blocked)
     round_waits_now n u top upto blocks env_is copying turns is_begun none_left open_still out =
         let fs = rest ∷ frame ∷ t.below in
         let here = node_below v past b.buffer t.node present_in in
@@ -240,7 +240,7 @@ module _ (w : Position) (v : View) (past : Past) (k : ℕ) (b : Beside w v past 
         (round_waits past.plan P k (bind_var t.env x t.node) x t.from s e t.env t.node t.below over_point none_left open_still, refl, refl, beside_still w n v past k b stands)
 
     pub waits_there : (n : Position) (u : Watermark) → n.top ≡ record w.top { round = Some (record r { next = NoneUpTo u }) } → suc u.0 ≡ v.nodes → n.below.items ≡ w.below.items → n.env ≡ w.env → n.copying ≡ w.copying → n.turns.items ≡ w.turns.items → n.is_begun ≡ w.is_begun
-        → (closed : Bool) → TurnTold None → ClosedTold closed → closed ≡ false → (out : List ℕ) → Moves past k w n v v out out (Some Blocked)
+        → (closed : Bool) → TurnTold None → ClosedTold closed → closed ≡ false → (out : List ℕ) → Moves past k w n v v out out (Some outcomes.Blocked)
     waits_there n u top upto blocks env_is copying turns is_begun closed told row is out = let open_still = closed_is closed row ∙ is in round_waits_now n u top upto blocks env_is copying turns is_begun (none_left told open_still) open_still out
 
 -- ---- a body that isn't that of a round is over

@@ -13,7 +13,7 @@ use Rattle.gcx_model.specs.Truth.{Env, bind_var}
 use Rattle.gcx_model.specs.Cores.{Good}
 use Rattle.gcx_model.specs.Placed.{Placed}
 use Rattle.gcx_model.specs.Past.{Past}
-use Rattle.gcx_model.specs.Points.{CoreState, Frame, Rest, Round, later, PointAt, Bound_in}
+use Rattle.gcx_model.specs.Points.{CoreState, Frame, Rest, LoopRound, later, PointAt, Bound_in}
 use Rattle.move_laws.specs.Moves.{AtPoint}
 use Rattle.placed_laws.proofs.Evaluator as over
 use Rattle.placed_laws.proofs.FromPlans.{from_state}
@@ -34,7 +34,7 @@ pub record TopRound (rows : List Cell) (P : Tree) (b : Block) (r : CodeRound) (b
   pub env : Env
   pub node : Node
   pub below : List Frame
-  pub is : fs ≡ Rest (items b.rest.now) (bind_var env r.var.0 node) ∷ Round r.var.0 from r.step.now (items r.body.now) env node ∷ below
+  pub is : fs ≡ Rest (items b.rest.now) (bind_var env r.var.0 node) ∷ LoopRound r.var.0 from r.step.now (items r.body.now) env node ∷ below
   pub round : IsRound rows P r r.var.0 from r.step.now (items r.body.now) env node
   pub looked : LooksInTime r.next b.rest.now
   pub seen : SeenTo P (bind_var env r.var.0 node) (items b.rest.now) b.seen
@@ -53,11 +53,11 @@ own_words rows P r x y s e env n h = record {
 }
 
 frame_words : (rows : List Cell) (P : Tree) (r : CodeRound) (x y : ℕ) (s : Step) (e d : BodyTree) (env : Env) (n : Node) (below : List Frame) → IsRound rows P r x y s e env n
-    → Rest d (bind_var env x n) ∷ Round x y s e env n ∷ below ≡ Rest d (bind_var env r.var.0 n) ∷ Round r.var.0 y r.step.now (items r.body.now) env n ∷ below
+    → Rest d (bind_var env x n) ∷ LoopRound x y s e env n ∷ below ≡ Rest d (bind_var env r.var.0 n) ∷ LoopRound r.var.0 y r.step.now (items r.body.now) env n ∷ below
 frame_words rows P r x y s e d env n below h =
-    ap (λ (z : ℕ). Rest d (bind_var env z n) ∷ Round z y s e env n ∷ below) (sym h.var)
-    ∙ (ap (λ (z : Step). Rest d (bind_var env r.var.0 n) ∷ Round r.var.0 y z e env n ∷ below) (sym h.step)
-    ∙ ap (λ (z : BodyTree). Rest d (bind_var env r.var.0 n) ∷ Round r.var.0 y r.step.now z env n ∷ below) (sym h.body))
+    ap (λ (z : ℕ). Rest d (bind_var env z n) ∷ LoopRound z y s e env n ∷ below) (sym h.var)
+    ∙ (ap (λ (z : Step). Rest d (bind_var env r.var.0 n) ∷ LoopRound r.var.0 y z e env n ∷ below) (sym h.step)
+    ∙ ap (λ (z : BodyTree). Rest d (bind_var env r.var.0 n) ∷ LoopRound r.var.0 y r.step.now z env n ∷ below) (sym h.body))
 
 pub round_of : (rows : List Cell) (P : Tree) (b : Block) (r : CodeRound) (bs : List Block) (fs : List Frame) → AreFrames rows P (b ∷ bs) fs → b.round ≡ Some r → TopRound rows P b r bs fs
 round_of rows P b r bs fs (alone free seen rest) e = absurd (cc)
@@ -78,8 +78,8 @@ round_of rows P b r bs fs (in_round {fs = below} q {x} {y} {s} {e} {env} {n} one
 
 -- the point within a round, with no copy in progress
 pub record AtRound (w : Position) (v : View) (past : Past) (k : ℕ) (r : CodeRound) (fs : List Frame) (t : TopRound v.rows past.tree w.top r (reverse w.below.items) fs) : Type 0 where
-  pub point : AtPoint past.plan past.tree k (Rest (items w.top.rest.now) (bind_var t.env r.var.0 t.node) ∷ Round r.var.0 t.from r.step.now (items r.body.now) t.env t.node ∷ t.below)
-  pub bound : w.is_begun ≡ true → (x : ℕ) (n : Node) → Bound_in x n (Round r.var.0 t.from r.step.now (items r.body.now) t.env t.node ∷ t.below) → IsBound v.rows w.env x n
+  pub point : AtPoint past.plan past.tree k (Rest (items w.top.rest.now) (bind_var t.env r.var.0 t.node) ∷ LoopRound r.var.0 t.from r.step.now (items r.body.now) t.env t.node ∷ t.below)
+  pub bound : w.is_begun ≡ true → (x : ℕ) (n : Node) → Bound_in x n (LoopRound r.var.0 t.from r.step.now (items r.body.now) t.env t.node ∷ t.below) → IsBound v.rows w.env x n
 
 pub top_round : (w : Position) (v : View) (past : Past) (k : ℕ) (b : Beside w v past k) (r : CodeRound) → w.top.round ≡ Some r → TopRound v.rows past.tree w.top r (reverse w.below.items) b.position.fs
 top_round w v past k b r e = round_of v.rows past.tree w.top r (reverse w.below.items) b.position.fs b.position.frames e

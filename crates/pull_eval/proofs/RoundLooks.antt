@@ -9,7 +9,7 @@ use Rattle.gcx_model.specs.Members.{In}
 use Rattle.gcx_model.specs.Truth.{Env, bind_var}
 use Rattle.gcx_model.specs.Run.{idle, run}
 use Rattle.gcx_model.specs.Past.{Past}
-use Rattle.gcx_model.specs.Points.{Frame, Rest, Round, to_come, Bound_in}
+use Rattle.gcx_model.specs.Points.{Frame, Rest, LoopRound, to_come, Bound_in}
 use Rattle.run_laws.proofs.Free.{some_acts}
 use Rattle.tree_laws.proofs.Matches.{Matches-in}
 use Rattle.past_laws.proofs.Bases.{is_grown}
@@ -76,7 +76,7 @@ module _ (w : Position) (v : View) (past : Past) (k : ℕ) (b : Beside w v past 
   rest = Rest (items w.top.rest.now) (bind_var t.env r.var.0 t.node)
 
   abbrev frame : Frame
-  frame = Round r.var.0 t.from r.step.now (items r.body.now) t.env t.node
+  frame = LoopRound r.var.0 t.from r.step.now (items r.body.now) t.env t.node
 
   abbrev context : NodeAt v.rows past.tree (holds past) r.context.0 (t.env t.from)
   context = round_context w v past k b begun no_copy r round

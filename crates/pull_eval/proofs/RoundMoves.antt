@@ -9,7 +9,7 @@ use Rattle.gcx_model.specs.Members.{In}
 use Rattle.gcx_model.specs.Core.{For, BodyTree}
 use Rattle.gcx_model.specs.Truth.{Env, bind_var}
 use Rattle.gcx_model.specs.Past.{Past}
-use Rattle.gcx_model.specs.Points.{Frame, Rest, Round, later, PointAt}
+use Rattle.gcx_model.specs.Points.{Frame, Rest, LoopRound, later, PointAt}
 use Rattle.tree_laws.proofs.Lists.{In-filter}
 use Rattle.tree_laws.proofs.Matches.{Matches-in}
 use Rattle.buf_tree.specs.Shape.{num}
@@ -41,11 +41,11 @@ round_block r next = record { rest = r.body; round = Some (record r { next = nex
 -- of the round at the node m, whose later matches are held, with the blocks below standing for the frames below it
 pub begun_frames : (w mid n : Position) (v : View) (past : Past) (k : ℕ) (b : Beside w v past k) (r : CodeRound) (y : ℕ) (env : Env) (m : Node) (below : List Frame) (bs : List Block) (g : Began v mid n r)
     → NodeAt v.rows past.tree (holds past) r.context.0 (env y) → NodeAt v.rows past.tree (holds past) r.present.0 m
-    → PointAt past.plan past.tree k (Rest (items r.body.now) (bind_var env r.var.0 m) ∷ Round r.var.0 y r.step.now (items r.body.now) env m ∷ below) → AreFrames v.rows past.tree bs below
-    → AreFrames v.rows past.tree (round_block r g.next ∷ bs) (Rest (items r.body.now) (bind_var env r.var.0 m) ∷ Round r.var.0 y r.step.now (items r.body.now) env m ∷ below)
+    → PointAt past.plan past.tree k (Rest (items r.body.now) (bind_var env r.var.0 m) ∷ LoopRound r.var.0 y r.step.now (items r.body.now) env m ∷ below) → AreFrames v.rows past.tree bs below
+    → AreFrames v.rows past.tree (round_block r g.next ∷ bs) (Rest (items r.body.now) (bind_var env r.var.0 m) ∷ LoopRound r.var.0 y r.step.now (items r.body.now) env m ∷ below)
 begun_frames w mid n v past k b r y env m below bs g at here point others =
     let P = past.tree in
-    let fs = Rest (items r.body.now) (bind_var env r.var.0 m) ∷ Round r.var.0 y r.step.now (items r.body.now) env m ∷ below in
+    let fs = Rest (items r.body.now) (bind_var env r.var.0 m) ∷ LoopRound r.var.0 y r.step.now (items r.body.now) env m ∷ below in
     let kept : (j : Node) → In j (later m (matches P (serial_of (env y)) (r.step.now ∷ []))) → holds past j ≡ true = λ j i. (let q = (In-filter (λ q. nat_lt (serial_of m) (serial_of q)) j (matches P (serial_of (env y)) (r.step.now ∷ [])) i).0 in needed_held w v past k b fs point j (Matches-in P (serial_of (env y)) (r.step.now ∷ []) j q).0 (inr (inl (inl (inr i))))) in
     let l = learnt_next v past b.buffer at.cell (env y) m r.step.now g.next at.cell_among (at_node v.rows P (holds past) r.context.0 (env y) at) here.among (num here.cell) here.number kept
     (g.learnt at.cell here.cell at.cell_among here.cell_among at.at here.at) in

@@ -9,7 +9,7 @@ use Rattle.gcx_model.specs.Nodes.{Rising}
 use Rattle.gcx_model.specs.Core.{BodyTree}
 use Rattle.gcx_model.specs.Truth.{Env, bind_var}
 use Rattle.gcx_model.specs.Past.{Past}
-use Rattle.gcx_model.specs.Points.{Frame, Rest, Round, later}
+use Rattle.gcx_model.specs.Points.{Frame, Rest, LoopRound, later}
 use Rattle.tree_laws.proofs.Matches.{Matches-rising}
 use Rattle.tree_laws.proofs.Fed.{grown_from}
 use Rattle.pass_laws.specs.Idle.{IsQuiet}
@@ -43,7 +43,7 @@ same_tail f g fs gs h = cc
 same_first : (f g : Frame) (fs gs : List Frame) → f ∷ fs ≡ g ∷ gs → f ≡ g
 same_first f g fs gs h = cc
 
-same_from : (x : ℕ) (s : Step) (e : BodyTree) (y z : ℕ) (env other : Env) (n m : Node) → Round x y s e env n ≡ Round x z s e other m → (y ≡ z) × (env ≡ other) × (n ≡ m)
+same_from : (x : ℕ) (s : Step) (e : BodyTree) (y z : ℕ) (env other : Env) (n m : Node) → LoopRound x y s e env n ≡ LoopRound x z s e other m → (y ≡ z) × (env ≡ other) × (n ≡ m)
 same_from x s e y z env other n m h = (cc, cc, cc)
 
 module _ (w : Position) (v : View) (past : Past) (k : ℕ) (b : Beside w v past k) (begun : w.is_begun ≡ true) (no_copy : w.copying ≡ None) (r : CodeRound) (round : w.top.round ≡ Some r) where
@@ -63,7 +63,7 @@ module _ (w : Position) (v : View) (past : Past) (k : ℕ) (b : Beside w v past 
   e = items r.body.now
 
   abbrev frame : Frame
-  frame = Round x t.from s e t.env t.node
+  frame = LoopRound x t.from s e t.env t.node
 
   abbrev rest : Frame
   rest = Rest (items w.top.rest.now) (bind_var t.env x t.node)
@@ -84,7 +84,7 @@ module _ (w : Position) (v : View) (past : Past) (k : ℕ) (b : Beside w v past 
   -- it is that at the top
   pub told_on : (found : Option Place) → ToldOf found t.from t.env t.node → TurnIn P v.rows b.position.fs r found
   told_on found told y env n top below h =
-      let f = same_first frame (Round x y s e env n) t.below below (same_tail rest top (frame ∷ t.below) (Round x y s e env n ∷ below) (sym t.is ∙ h)) in
+      let f = same_first frame (LoopRound x y s e env n) t.below below (same_tail rest top (frame ∷ t.below) (LoopRound x y s e env n ∷ below) (sym t.is ∙ h)) in
       let q = same_from x s e t.from y t.env env t.node n f in
       subst (λ (z : ℕ). ToldOf found z env n) q.0 (subst (λ (z : Env). ToldOf found t.from z n) q.1 (subst (λ (z : Node). ToldOf found t.from t.env z) q.2 told))
 

@@ -45,7 +45,7 @@ use Rattle.pull_eval.specs.Acting.{Beside, IsNextItem, TakesAction, SoughtRound,
 use Rattle.pull_eval.specs.declared.block.Round.{Round as CodeRound}
 use Rattle.pull_eval.specs.declared.block.Block.{Block}
 use Rattle.pull_eval.specs.declared.position.Position.{Position}
-use Rattle.pull_eval.specs.declared.machine.Acted.TheVariants.{SignedOff}
+use Rattle.pull_eval.specs.declared.machine.Acted.TheVariants as outcomes
 use Rattle.cond_eval.proofs.Rows.{kept_at, rows_rise}
 use Rattle.pull_eval.proofs.HeldRows.{holds, held_rows}
 use Rattle.pull_eval.proofs.Frames.{LooksOn, at_item, begins_anew, stands_plainly, turns_still}
@@ -59,7 +59,7 @@ sought_on : (m : Option CodeRound) (is js : List Item) → SoughtRound m → Loo
 sought_on None is js h = tt
 sought_on (Some r) is js h = λ l. sought_looks r.next js h
 
-module _ (m : Position) (v : View) (past : Past) (k : ℕ) (b : Beside m v past k) (begun : m.is_begun ≡ true) (off : Off) (d : BodyTree) (next : IsNextItem m (tree.Off (off_tree off)) d) where
+module _ (m : Position) (v : View) (past : Past) (k : ℕ) (b : Beside m v past k) (begun : m.is_begun ≡ true) (off : Off) (d : BodyTree) (next : IsNextItem m (tree.SignOff (off_tree off)) d) where
   abbrev P : Tree
   P = past.tree
 
@@ -67,25 +67,25 @@ module _ (m : Position) (v : View) (past : Past) (k : ℕ) (b : Beside m v past 
   o = off_tree off
 
   abbrev env : Env
-  env = (at_item m v past k b (tree.Off (off_tree off)) d next).env
+  env = (at_item m v past k b (tree.SignOff (off_tree off)) d next).env
 
   abbrev below : List Frame
-  below = (at_item m v past k b (tree.Off (off_tree off)) d next).below
+  below = (at_item m v past k b (tree.SignOff (off_tree off)) d next).below
 
   -- the node of the base
   abbrev n : Node
   n = env off.base.0
 
   pub base_bound : IsBound v.rows m.env off.base.0 n
-  base_bound = used_bound m v past k b (tree.Off o) d next begun off.base.0 refl
+  base_bound = used_bound m v past k b (tree.SignOff o) d next begun off.base.0 refl
 
   pub base_row : (p : ℕ) → p ≡ base_bound.place → NodeAt v.rows P (holds past) p n
   base_row p q =
-      let i = used_in m v past k b (tree.Off o) d next off.base.0 refl in
-      kept_at v.rows P (holds past) (held_rows v past b.buffer) n p i (item_held m v past k b (tree.Off o) d next n i refl) (subst (λ (z : ℕ). PlacedAt v.rows (serial_of n) z) (sym q) base_bound.at)
+      let i = used_in m v past k b (tree.SignOff o) d next off.base.0 refl in
+      kept_at v.rows P (holds past) (held_rows v past b.buffer) n p i (item_held m v past k b (tree.SignOff o) d next n i refl) (subst (λ (z : ℕ). PlacedAt v.rows (serial_of n) z) (sym q) base_bound.at)
 
   moved : IsNext past.plan P k (Offed o (serial_of n)) × PointAt past.plan P (suc k) (Rest d env ∷ below)
-  moved = off_move past.plan P k o d env below (at_item m v past k b (tree.Off o) d next).point
+  moved = off_move past.plan P k o d env below (at_item m v past k b (tree.SignOff o) d next).point
 
   pub stated : In o (offs_in past.plan.body)
   stated =
@@ -94,7 +94,7 @@ module _ (m : Position) (v : View) (past : Past) (k : ℕ) (b : Beside m v past 
       (offs_at_matches is.core is.good past.plan is.placed P (suc k) (acted b.state moved.0.left) o (serial_of n) i).0
 
   pub base_match : In n (bases past o)
-  base_match = let is = b.buffer.is_past in (bound_law is.core is.good past.plan is.placed P k b.state [] below (tree.Off o) d env (at_item m v past k b (tree.Off o) d next).point.point off.base.0 refl).1
+  base_match = let is = b.buffer.is_past in (bound_law is.core is.good past.plan is.placed P k b.state [] below (tree.SignOff o) d env (at_item m v past k b (tree.SignOff o) d next).point.point off.base.0 refl).1
 
   unsigned : is_signed past.plan past.acts n off.role.0 ≡ true → ⊥
   unsigned h =
@@ -102,7 +102,7 @@ module _ (m : Position) (v : View) (past : Past) (k : ℕ) (b : Beside m v past 
       let one : statement_of past.plan off.role.0 ≡ Some o = (one_statement_law is.core is.good past.plan is.placed off.role.0 o).1 (stated, refl) in
       let e : signed past.acts o n ≡ true = sym (ap (on_off (λ (q : OffTree). signed past.acts q n)) one) ∙ h in
       let i : In (Offed o (serial_of n)) (so_far past.plan P k) = subst (λ (z : List Action). In (Offed o (serial_of n)) z) b.acts ((signed_is_off past.acts o n).0 e) in
-      unsigned_law is.core is.good past.plan is.placed P k b.state [] below o d env (at_item m v past k b (tree.Off o) d next).point.point i
+      unsigned_law is.core is.good past.plan is.placed P k b.state [] below o d env (at_item m v past k b (tree.SignOff o) d next).point.point i
 
   -- what the row of the base tells
   base_told : (p : ℕ) (q : p ≡ base_bound.place) → seen (base_row p q).cell ≡ told past n
@@ -147,7 +147,7 @@ module _ (m : Position) (v : View) (past : Past) (k : ℕ) (b : Beside m v past 
 
 -- ---- behind the statement
 
-module _ (m : Position) (v : View) (past : Past) (k : ℕ) (b : Beside m v past k) (begun : m.is_begun ≡ true) (off : Off) (after : Block) (next : IsNextItem m (tree.Off (off_tree off)) (items after.rest.now)) where
+module _ (m : Position) (v : View) (past : Past) (k : ℕ) (b : Beside m v past k) (begun : m.is_begun ≡ true) (off : Off) (after : Block) (next : IsNextItem m (tree.SignOff (off_tree off)) (items after.rest.now)) where
   abbrev Q : Tree
   Q = past.tree
 
@@ -155,10 +155,10 @@ module _ (m : Position) (v : View) (past : Past) (k : ℕ) (b : Beside m v past 
   s = off_tree off
 
   abbrev at_env : Env
-  at_env = (at_item m v past k b (tree.Off (off_tree off)) (items after.rest.now) next).env
+  at_env = (at_item m v past k b (tree.SignOff (off_tree off)) (items after.rest.now) next).env
 
   abbrev under : List Frame
-  under = (at_item m v past k b (tree.Off (off_tree off)) (items after.rest.now) next).below
+  under = (at_item m v past k b (tree.SignOff (off_tree off)) (items after.rest.now) next).below
 
   abbrev base : Node
   base = at_env off.base.0
@@ -170,7 +170,7 @@ module _ (m : Position) (v : View) (past : Past) (k : ℕ) (b : Beside m v past 
   then_past = past_acted act past
 
   move : IsNext past.plan Q k act × PointAt past.plan Q (suc k) (Rest (items after.rest.now) at_env ∷ under)
-  move = off_move past.plan Q k s (items after.rest.now) at_env under (at_item m v past k b (tree.Off s) (items after.rest.now) next).point
+  move = off_move past.plan Q k s (items after.rest.now) at_env under (at_item m v past k b (tree.SignOff s) (items after.rest.now) next).point
 
   module _ (w : View) (stands : StandsFor w then_past) (g : Signed v w off.role.0) where
     taken : w.taken ≡ capped (sum_taken past.plan Q then_past.acts)
@@ -194,14 +194,14 @@ module _ (m : Position) (v : View) (past : Past) (k : ℕ) (b : Beside m v past 
 
       frames : AreFrames w.rows Q (n.top ∷ reverse n.below.items) fs
       frames =
-          let a = at_item m v past k b (tree.Off s) (items after.rest.now) next in
+          let a = at_item m v past k b (tree.SignOff s) (items after.rest.now) next in
           let own = a.goes after round (sought_on m.top.round m.top.rest.now after.rest.now sought) (begins_anew Q b.buffer.is_past.grown at_env (items after.rest.now) after.seen anew) in
           let now = frames_fewer v.rows w.rows g.places Q (after ∷ reverse m.below.items) fs own in
           subst (λ (z : List Block). AreFrames w.rows Q (n.top ∷ reverse z) fs) (sym blocks) (subst (λ (z : Block). AreFrames w.rows Q (z ∷ reverse m.below.items) fs) (sym top) now)
 
       bound : (z : ℕ) (j : Node) → Bound_in z j fs → IsBound w.rows n.env z j
       bound z j h =
-          let a = at_item m v past k b (tree.Off s) (items after.rest.now) next in
+          let a = at_item m v past k b (tree.SignOff s) (items after.rest.now) next in
           subst (λ (q : Bindings). IsBound w.rows q z j) (sym env_is) (bound_fewer v.rows w.rows g.places m.env z j (a.bound begun z j h))
 
       turns : TurnsStand w.rows Q n.turns.items
@@ -216,7 +216,7 @@ module _ (m : Position) (v : View) (past : Past) (k : ℕ) (b : Beside m v past 
         position = stands_plainly n w.rows past.plan Q (suc k) fs (copying ∙ next.no_copy) (is_begun ∙ begun) turns move.1 frames bound;
       }
 
-      signs : (number : Serial) → number.0 ≡ serial_of base → (out : List ℕ) → TakesAction past k n v w out out (SignedOff number off.role)
+      signs : (number : Serial) → number.0 ≡ serial_of base → (out : List ℕ) → TakesAction past k n v w out out (outcomes.SignedOff number off.role)
       signs number e out =
           subst (λ (z : ℕ). (o : OffTree) × IsNext past.plan past.tree k (Offed o z) × (o.role ≡ off.role.0) × (out ≡ out) × (w.gone ≡ v.gone ++ leaving past (Offed o z)) × SamePlaces v.rows w.rows × Beside n w (past_acted (Offed o z) past) (suc k))
           (sym e) (s, move.0, refl, refl, gone, g.places, beside)
@@ -224,7 +224,7 @@ module _ (m : Position) (v : View) (past : Past) (k : ℕ) (b : Beside m v past 
   -- in the words of the code
   pub signs_there : (p : ℕ) (number : Serial) → ((q t : ℕ) → map.get m.env off.base.0 ≡ Some (q, t) → p ≡ q) → number.0 ≡ serial_at p v.rows → ((c : Cell) → In c v.rows → c.place ≡ p → num c ≡ number.0) → (w : View)
       → ((q : Past) → StandsFor v q → In s (offs_in q.plan.body) → StandsFor w (past_acted (Offed s (serial_at p v.rows)) q)) → Signed v w off.role.0 → (n : Position) → n.top ≡ after → after.round ≡ m.top.round → after.seen ≡ 0 → SoughtRound m.top.round
-      → n.below.items ≡ m.below.items → n.env ≡ m.env → n.copying ≡ m.copying → n.turns.items ≡ m.turns.items → n.is_begun ≡ m.is_begun → (out : List ℕ) → TakesAction past k n v w out out (SignedOff number off.role)
+      → n.below.items ≡ m.below.items → n.env ≡ m.env → n.copying ≡ m.copying → n.turns.items ≡ m.turns.items → n.is_begun ≡ m.is_begun → (out : List ℕ) → TakesAction past k n v w out out (outcomes.SignedOff number off.role)
   signs_there p number bound_at told row w stands g n top round anew sought blocks env_is copying turns_are is_begun out =
       let e = base_number m v past k b begun off (items after.rest.now) next p number.0 bound_at row in
       let st : StandsFor w then_past = subst (λ (z : ℕ). StandsFor w (past_acted (Offed s z) past)) (sym told ∙ e) (stands past b.buffer (stated m v past k b begun off (items after.rest.now) next)) in

@@ -4,7 +4,7 @@ use Rattle.std.specs.Prelude.{option_map}
 use Rattle.std.specs.FinMap.{get}
 use Rattle.gcx_base.specs.declared.kind.Kind.{Kind}
 use Rattle.gcx_model.specs.Members.{In}
-use Rattle.node_store.specs.Rows.{Entry, parent_of}
+use Rattle.node_store.specs.Rows.{StoreRow, parent_of}
 use Rattle.node_store.specs.declared.store.Place.{Place}
 use Rattle.buf_tree.specs.Row.{Row}
 use Rattle.buf_tree.specs.Shape.{Store, Cell, num, Shape}
@@ -14,7 +14,7 @@ use Rattle.buf_tree.proofs.KeptReading.{kind_told, parent_told_by, no_parent_tol
 use Rattle.buf_tree.proofs.Shaping.{rising_same}
 
 module _ (m : Store) (ks rows : List Cell) (s : Shape m ks) (same : SameButRoles ks rows) where
-  pub kind_read : (p q : Place) → q ≡ p → (r : Row) (k : Kind) → option_map (λ (e : Entry Row). e.payload) (get m q.0) ≡ Some r → k ≡ r.kind → (c : Cell) → In c rows → c.place ≡ p.0 → k ≡ c.row.kind
+  pub kind_read : (p q : Place) → q ≡ p → (r : Row) (k : Kind) → option_map (λ (e : StoreRow Row). e.payload) (get m q.0) ≡ Some r → k ≡ r.kind → (c : Cell) → In c rows → c.place ≡ p.0 → k ≡ c.row.kind
   kind_read p q at r k h f c i e = f ∙ sym (kind_told m ks rows s same q.0 r h c i (e ∙ sym (ap (λ (z : Place). z.0) at)))
 
   -- the parent of a child is the row of which it is one

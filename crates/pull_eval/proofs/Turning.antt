@@ -3,7 +3,7 @@ use Rattle.std.proofs.Common.{◌≡◌, ◌<◌, suc, ℕ, true, List, [], ◌�
 use Rattle.gcx_model.specs.Tree.{Node, Tree, opening}
 use Rattle.gcx_model.specs.Core.{CondTree, BodyTree, Nil, Then, Write, If, PlanTree}
 use Rattle.gcx_model.specs.Truth.{Env, bind_var}
-use Rattle.gcx_model.specs.Points.{Frame, Rest, Round, Part, PointAt, Bound_in}
+use Rattle.gcx_model.specs.Points.{Frame, Rest, LoopRound, CopyPart, PointAt, Bound_in}
 use Rattle.gcx_model.specs.Growth.{Leads}
 use Rattle.gcx_model.specs.Run.{Wrote}
 use Rattle.gcx_model.specs.Past.{Past, past_acted}
@@ -39,8 +39,8 @@ lighter : (rows : ℕ) (P : Tree) (fs : List Frame) (c : CondTree) (this other b
 lighter rows P [] c this other branch h = absurd h
 lighter rows P (Rest d env ∷ fs) c this other branch (inl h) = let e = ap (weigh_body rows) h.1 in omega arith
 lighter rows P (Rest d env ∷ fs) c this other branch (inr h) = let e = ap (weigh_body rows) h.1 in omega arith
-lighter rows P (Round x y s e env n ∷ fs) c this other branch h = absurd h
-lighter rows P (Part x env made ∷ fs) c this other branch h = absurd h
+lighter rows P (LoopRound x y s e env n ∷ fs) c this other branch h = absurd h
+lighter rows P (CopyPart x env made ∷ fs) c this other branch h = absurd h
 
 -- ---- the block below
 
@@ -68,7 +68,7 @@ popped rows plan P k b c bs fs grown over (in_round {fs = below} r {x} {y} {s} {
     record {
       rest = below;
       frames = rest;
-      point = last_rounds_pass plan P k (bind_var env x n) x y s e env n below (record { grown = grown; point = subst (λ (z : BodyTree). PointAt plan P k (Rest z (bind_var env x n) ∷ Round x y s e env n ∷ below)) over point }) last.0 last.1;
+      point = last_rounds_pass plan P k (bind_var env x n) x y s e env n below (record { grown = grown; point = subst (λ (z : BodyTree). PointAt plan P k (Rest z (bind_var env x n) ∷ LoopRound x y s e env n ∷ below)) over point }) last.0 last.1;
       bound = λ z m h. inr h;
     }
 
@@ -79,7 +79,7 @@ all_done rows plan P k b fs grown over (alone {env = v} {fs = below} free seen r
     run_is_done plan P k (Rest Nil v ∷ []) (record { grown = grown; point = subst (λ (z : List Frame). PointAt plan P k (Rest Nil v ∷ z)) none_below (subst (λ (z : BodyTree). PointAt plan P k (Rest z v ∷ below)) over point) }) tt
 all_done rows plan P k b fs grown over (in_round {fs = below} r {x} {y} {s} {e} {env} {n} one round looked seen rest) point last =
     let none_below = no_frames rows P below rest in
-    let p : PointAt plan P k below = last_rounds_pass plan P k (bind_var env x n) x y s e env n below (record { grown = grown; point = subst (λ (z : BodyTree). PointAt plan P k (Rest z (bind_var env x n) ∷ Round x y s e env n ∷ below)) over point }) last.0 last.1 in
+    let p : PointAt plan P k below = last_rounds_pass plan P k (bind_var env x n) x y s e env n below (record { grown = grown; point = subst (λ (z : BodyTree). PointAt plan P k (Rest z (bind_var env x n) ∷ LoopRound x y s e env n ∷ below)) over point }) last.0 last.1 in
     run_is_done plan P k [] (record { grown = grown; point = subst (λ (z : List Frame). PointAt plan P k z) none_below p }) tt
 
 no_blocks : (xs : List Block) → length xs ≡ 0 → xs ≡ []

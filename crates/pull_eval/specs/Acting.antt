@@ -9,7 +9,7 @@ use Rattle.gcx_model.specs.Core.{OffTree, CondTree, ItemTree, BodyTree, Then}
 use Rattle.gcx_model.specs.Run.{Action, Offed}
 use Rattle.gcx_model.specs.Run as run
 use Rattle.gcx_model.specs.Held.{held, departed, sum_taken}
-use Rattle.gcx_model.specs.Points.{so_far, CoreState, Frame, Rest, Round, Part, later}
+use Rattle.gcx_model.specs.Points.{so_far, CoreState, Frame, Rest, LoopRound, CopyPart, later}
 use Rattle.gcx_model.specs.Copying.{CopyFrame, Inside, next_children}
 use Rattle.gcx_model.specs.Past.{Past, past_acted}
 use Rattle.move_laws.specs.Moves.{IsNext, NoneLeft}
@@ -25,7 +25,7 @@ use Rattle.pull_eval.specs.declared.block.Next.TheVariants.{Unsought}
 use Rattle.pull_eval.specs.declared.block.Round.{Round as CodeRound}
 use Rattle.pull_eval.specs.declared.block.Block.{Block}
 use Rattle.pull_eval.specs.declared.machine.Acted.{Acted}
-use Rattle.pull_eval.specs.declared.machine.Acted.TheVariants.{Wrote, SignedOff, Blocked, Finished}
+use Rattle.pull_eval.specs.declared.machine.Acted.TheVariants as outcomes
 
 -- Beside the buffer the machine stands for the past's tree with the first k actions taken, which are the past's.
 pub record Beside (w : Position) (v : View) (past : Past) (k : ℕ) : Type 0 where
@@ -52,10 +52,10 @@ SamePlaces before now = (c : Cell) → In c now → (d : Cell) × In d before ×
 
 -- the action that was taken is the next one, or none is left
 abbrev pub TakesAction : Past → (k : ℕ) → Position → (v w : View) → (before after : List ℕ) → Acted → Type 0
-TakesAction past k m v w before after (Wrote n) = (b : List ℕ) × IsNext past.plan past.tree k (run.Wrote b) × (n ≡ length b) × (after ≡ before ++ b) × (w ≡ v) × Beside m w (past_acted (run.Wrote b) past) (suc k)
-TakesAction past k m v w before after (SignedOff s r) = (o : OffTree) × IsNext past.plan past.tree k (Offed o s.0) × (o.role ≡ r.0) × (after ≡ before) × (w.gone ≡ v.gone ++ leaving past (Offed o s.0)) × SamePlaces v.rows w.rows × Beside m w (past_acted (Offed o s.0) past) (suc k)
-TakesAction past k m v w before after Blocked = NoneLeft past.plan past.tree k false × (after ≡ before) × (w ≡ v) × Beside m w past k
-TakesAction past k m v w before after Finished = NoneLeft past.plan past.tree k true × (after ≡ before) × (w ≡ v) × Beside m w past k
+TakesAction past k m v w before after (outcomes.Wrote n) = (b : List ℕ) × IsNext past.plan past.tree k (run.Wrote b) × (n ≡ length b) × (after ≡ before ++ b) × (w ≡ v) × Beside m w (past_acted (run.Wrote b) past) (suc k)
+TakesAction past k m v w before after (outcomes.SignedOff s r) = (o : OffTree) × IsNext past.plan past.tree k (Offed o s.0) × (o.role ≡ r.0) × (after ≡ before) × (w.gone ≡ v.gone ++ leaving past (Offed o s.0)) × SamePlaces v.rows w.rows × Beside m w (past_acted (Offed o s.0) past) (suc k)
+TakesAction past k m v w before after outcomes.Blocked = NoneLeft past.plan past.tree k false × (after ≡ before) × (w ≡ v) × Beside m w past k
+TakesAction past k m v w before after outcomes.Finished = NoneLeft past.plan past.tree k true × (after ≡ before) × (w ≡ v) × Beside m w past k
 
 -- the same of a move from the position m to n, where it may take no action: then fewer moves without one are left
 abbrev pub Moves : Past → (k : ℕ) → (m n : Position) → (v w : View) → (before after : List ℕ) → Option Acted → Type 0
@@ -88,15 +88,15 @@ pub record IsNextItem (w : Position) (i : ItemTree) (d : BodyTree) : Type 0 wher
 abbrev pub ChosenBranch : Tree → List Frame → CondTree → (this other branch : BodyTree) → Type 0
 ChosenBranch P [] c this other branch = ⊥
 ChosenBranch P (Rest d env ∷ fs) c this other branch = ((truth c env P ≡ True) × (branch ≡ this)) ⊎ ((truth c env P ≡ False) × (branch ≡ other))
-ChosenBranch P (Round x y s e env n ∷ fs) c this other branch = ⊥
-ChosenBranch P (Part x env made ∷ fs) c this other branch = ⊥
+ChosenBranch P (LoopRound x y s e env n ∷ fs) c this other branch = ⊥
+ChosenBranch P (CopyPart x env made ∷ fs) c this other branch = ⊥
 
 -- of the round at the top of the frames no match comes, and at those that are left its body does nothing
 abbrev pub IsLast : Tree → List Frame → Type 0
 IsLast P [] = Unit {0}
 IsLast P (Rest d env ∷ fs) = Unit {0}
-IsLast P (Round x y s e env n ∷ fs) = ((j : Node) → In j (later n (matches P (serial_of (env y)) (s ∷ []))) → IsQuiet e (bind_var env x j) P) × (is_closed P (env y) ≡ true)
-IsLast P (Part x env made ∷ fs) = Unit {0}
+IsLast P (LoopRound x y s e env n ∷ fs) = ((j : Node) → In j (later n (matches P (serial_of (env y)) (s ∷ []))) → IsQuiet e (bind_var env x j) P) × (is_closed P (env y) ≡ true)
+IsLast P (CopyPart x env made ∷ fs) = Unit {0}
 
 -- The body at the top of the frames is over, and if it is that of a round, so is the loop.
 abbrev pub IsOver : Tree → List Frame → Type 0

@@ -8,7 +8,7 @@ use Rattle.gcx_model.specs.Paths.{matches}
 use Rattle.gcx_model.specs.Members.{In}
 use Rattle.gcx_model.specs.Core.{For, BodyTree, Then}
 use Rattle.gcx_model.specs.Truth.{Env, bind_var}
-use Rattle.gcx_model.specs.Points.{Frame, Rest, Round, later}
+use Rattle.gcx_model.specs.Points.{Frame, Rest, LoopRound, later}
 use Rattle.gcx_model.specs.Past.{Past}
 use Rattle.gcx_model.specs.Held.{is_held}
 use Rattle.pass_laws.specs.Idle.{IsQuiet}
@@ -99,7 +99,7 @@ TurnsAt rows ms quiet closed left (Some p) = (pre : List Node) × (m : Node) × 
 
 -- so is that with which the loop of the round at the top of the frames goes on
 abbrev pub TurnIn : Tree → List Cell → List Frame → CodeRound → Option Place → Type 0
-TurnIn P rows fs r found = (y : ℕ) (env : Env) (n : Node) (top : Frame) (below : List Frame) → fs ≡ top ∷ Round r.var.0 y r.step.now (items r.body.now) env n ∷ below
+TurnIn P rows fs r found = (y : ℕ) (env : Env) (n : Node) (top : Frame) (below : List Frame) → fs ≡ top ∷ LoopRound r.var.0 y r.step.now (items r.body.now) env n ∷ below
     → TurnsAt rows (later n (matches P (serial_of (env y)) (r.step.now ∷ []))) (λ j. IsQuiet (items r.body.now) (bind_var env r.var.0 j) P)
     (is_closed P (env y) ≡ true) (rounds_left rows r.present r.next) found
 

@@ -9,7 +9,7 @@ use Rattle.gcx_model.specs.Core as tree
 use Rattle.gcx_model.specs.Truth.{Env, bind_var}
 use Rattle.gcx_model.specs.Run.{env0}
 use Rattle.gcx_model.specs.Copying.{CopyFrame, Inside, FinePoint}
-use Rattle.gcx_model.specs.Points.{Frame, Rest, Round, later, Bound_in}
+use Rattle.gcx_model.specs.Points.{Frame, Rest, LoopRound, later, Bound_in}
 use Rattle.gcx_model.specs.ItemView.{item_tree, body_of}
 use Rattle.gcx_model.specs.declared.item.Item.{Item}
 use Rattle.gcx_model.specs.declared.item.Item.TheVariants as item
@@ -67,7 +67,7 @@ SeenItem P env (Write b) k = Unit {0}
 SeenItem P env (Copy x) k = Unit {0}
 SeenItem P env (For x y s d) k = ((m : Node) → In m (matches P (serial_of (env y)) (s ∷ [])) → k < serial_of m) × ((k ≡ 0) ⊎ (k < length P.nodes))
 SeenItem P env (If c a b) k = Unit {0}
-SeenItem P env (tree.Off o) k = Unit {0}
+SeenItem P env (tree.SignOff o) k = Unit {0}
 
 abbrev pub SeenTo : Tree → Env → BodyTree → (k : ℕ) → Type 0
 SeenTo P env Nil k = Unit {0}
@@ -79,7 +79,7 @@ pub data AreFrames (rows : List Cell) (P : Tree) : List Block → List Frame →
   alone : {b : Block} {bs : List Block} {env : Env} {fs : List Frame} → b.round ≡ None → SeenTo P env (items b.rest.now) b.seen → AreFrames rows P bs fs
       → AreFrames rows P (b ∷ bs) (Rest (items b.rest.now) env ∷ fs)
   in_round : {b : Block} {bs : List Block} {fs : List Frame} (r : CodeRound) {x y : ℕ} {s : Step} {e : BodyTree} {env : Env} {n : Node} → b.round ≡ Some r → IsRound rows P r x y s e env n → LooksInTime r.next b.rest.now
-      → SeenTo P (bind_var env x n) (items b.rest.now) b.seen → AreFrames rows P bs fs → AreFrames rows P (b ∷ bs) (Rest (items b.rest.now) (bind_var env x n) ∷ Round x y s e env n ∷ fs)
+      → SeenTo P (bind_var env x n) (items b.rest.now) b.seen → AreFrames rows P bs fs → AreFrames rows P (b ∷ bs) (Rest (items b.rest.now) (bind_var env x n) ∷ LoopRound x y s e env n ∷ fs)
 
 -- the child whose copy is over last stands at the place
 abbrev pub PresentAt : List Cell → Option Node → Option Place → Type 0

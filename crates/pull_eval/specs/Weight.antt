@@ -1,6 +1,6 @@
 -- How many moves without an action a position has before it at most: what falls with each of them (this project's).
 use Rattle.std.specs.Prelude.{ℕ, ◌+◌, ◌*◌, suc, ltb, List, [], ◌∷◌, length, filter, Option, Some, None}
-use Rattle.gcx_model.specs.Core.{ItemTree, Write, Copy, For, If, Off, BodyTree, Nil, Then}
+use Rattle.gcx_model.specs.Core.{ItemTree, Write, Copy, For, If, SignOff, BodyTree, Nil, Then}
 use Rattle.node_store.specs.declared.store.Place.{Place}
 use Rattle.buf_tree.specs.Shape.{Cell, num}
 use Rattle.buf_tree.specs.View.{serial_at}
@@ -19,7 +19,7 @@ abbrev mutual
   weigh_item rows (Copy x) = 2
   weigh_item rows (For x y s d) = 1 + rows * suc (weigh_body rows d)
   weigh_item rows (If c a b) = 2 + (weigh_body rows a + weigh_body rows b)
-  weigh_item rows (Off o) = 1
+  weigh_item rows (SignOff o) = 1
 
   pub weigh_body : (rows : ℕ) → BodyTree → ℕ
   weigh_body rows Nil = 0

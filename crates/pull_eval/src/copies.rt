@@ -12,7 +12,7 @@ ghost use Rattle.pull_eval.specs.Position.{items};
 ghost use Rattle.pull_eval.specs.Copies.{first_bytes, last_bytes, present_place, begun_at, come_to};
 ghost use Rattle.pull_eval.specs.Acting.{Beside, IsNextItem, NextIs, NoNext};
 ghost use Rattle.pull_eval.specs.Calls.{MovesTo, FindsChild, RisesTo};
-ghost use Rattle.pull_eval.specs.declared.machine.Acted.TheVariants.{Wrote};
+ghost use Rattle.pull_eval.specs.declared.machine.Acted.TheVariants as outcomes;
 
 use crate::block::Copying;
 use crate::machine::Acted;
@@ -166,6 +166,7 @@ impl<'p> Position<'p> {
     }
 
     /// A copy goes on: with the next child, or with its end where none comes.
+    #[inline(always)]
     pub(crate) fn copy_on<N: NodeStore<Row>>(
         &mut self,
         copying: Copying,
@@ -260,7 +261,7 @@ fn above<N: NodeStore<Row>>(buffer: &Buffer<N>, copying: &Copying) -> Option<Cop
 fn wrote(before: usize, out: &Vec<u8>) -> Option<Acted>
     requires { before ≤ length out.now.items }
     ensures none { length out.now.items ≡ before → result ≡ None }
-    ensures some { before < length out.now.items → result ≡ Some (Wrote (length out.now.items - before)) }
+    ensures some { before < length out.now.items → result ≡ Some (outcomes.Wrote (length out.now.items - before)) }
 {
     if out.len() == before {
         return None;

@@ -93,8 +93,10 @@ impl<'p, C: Conds> Machine<'p, C> {
     /// out in the buffer.
     ///
     /// After `Memory` the output is as before, and no further call may be made.
+    ///
+    /// `K` is the kind of caller, and says nothing: with it the compiler makes a body for each, and puts it in line there.
     #[inline(always)]
-    pub fn act<N: NodeStore<Row>>(
+    pub fn act<N: NodeStore<Row>, K>(
         &mut self,
         alloc: Global,
         buffer: &mut Buffer<N>,
@@ -110,7 +112,8 @@ impl<'p, C: Conds> Machine<'p, C> {
     {
         let again = self.asked;
         self.asked = false;
-        self.runner.act(alloc, again, &mut self.asked, buffer, out)
+        self.runner
+            .act::<N, K>(alloc, again, &mut self.asked, buffer, out)
     }
 }
 
@@ -118,7 +121,7 @@ impl<'p, C: Conds> Runner<'p, C> {
     /// Takes the next action. Where `again` is true the condition that comes next was asked last; so it is behind the
     /// call where `asked` is.
     #[inline(always)]
-    fn act<N: NodeStore<Row>>(
+    fn act<N: NodeStore<Row>, K>(
         &mut self,
         alloc: Global,
         again: bool,
@@ -140,7 +143,7 @@ impl<'p, C: Conds> Runner<'p, C> {
         self.position.begin(buffer)?;
         let mut again = again;
         'moves: loop {
-            if let Some(acted) = self.advance(alloc, again, asked, buffer, out)? {
+            if let Some(acted) = self.advance::<N, K>(alloc, again, asked, buffer, out)? {
                 return Ok(acted);
             }
             again = false;
@@ -150,7 +153,7 @@ impl<'p, C: Conds> Runner<'p, C> {
 
     /// One move: an action or the end of all, or None for a move that takes no action.
     #[inline(always)]
-    fn advance<N: NodeStore<Row>>(
+    fn advance<N: NodeStore<Row>, K>(
         &mut self,
         alloc: Global,
         again: bool,
@@ -173,13 +176,13 @@ impl<'p, C: Conds> Runner<'p, C> {
     {
         match self.position.copying {
             Some(copying) => self.position.copy_on(copying, buffer, out),
-            None => self.run_on(alloc, again, asked, buffer, out),
+            None => self.run_on::<N, K>(alloc, again, asked, buffer, out),
         }
     }
 
     /// A move of the block that runs.
     #[inline(always)]
-    fn run_on<N: NodeStore<Row>>(
+    fn run_on<N: NodeStore<Row>, K>(
         &mut self,
         alloc: Global,
         again: bool,

@@ -120,7 +120,7 @@ impl<'p> Position<'p> {
         rest: &'p [Item],
         buffer: &mut Buffer<N>,
     ) -> Result<Option<Acted>, Memory>
-        requires next { IsNextItem self.old (tree.Off (off_tree off.now)) (items rest.now) }
+        requires next { IsNextItem self.old (tree.SignOff (off_tree off.now)) (items rest.now) }
         requires begun { self.old.is_begun ≡ true }
         requires beside { (past : Past) × (k : ℕ) × Beside self.old buffer.old past k }
         ensures moved { IfOk result (λ a. MovesSilently self.old self.new buffer.old buffer.new a) }

@@ -7,7 +7,7 @@ use Rattle.std.specs.Ordering.{nat_cmp}
 use Rattle.std.proofs.lemmas.Bool.{cases_eq, eq-eqb, ne_eqb}
 use Rattle.std.proofs.lemmas.List.{length-map}
 use Rattle.std.proofs.Math.Facts.{Fits-of_lt}
-use Rattle.node_store.specs.Rows.{Rows, Entry, leaf, with_child, is_listed, changed, changed_at, planted, appended, unlinked, left_by, without_child, parent_of, last_of, IsTree}
+use Rattle.node_store.specs.Rows.{Rows, StoreRow, leaf, with_child, is_listed, changed, changed_at, planted, appended, unlinked, left_by, without_child, parent_of, last_of, IsTree}
 use Rattle.node_store.specs.Links.{Linked, rows_of, linked_at, fresh_cell, with_last, altered, put, joined, Holds}
 use Rattle.node_store.proofs.Siblings.{listed_cases, not_listed}
 use Rattle.node_store.proofs.Maps.{get_same, get_other, gone_other, some_row, is_there, len_new}
@@ -39,17 +39,17 @@ spared len cells now was most held spare above more left full = elim (cases_eq l
 -- ---- rows that are not there
 
 module _ {T : Type 0} where
-  pub none_changed : (f : Entry T → Entry T) (q : ℕ) (m : Rows T) (j : ℕ) → fin.get (changed_at f q m) j ≡ None → fin.get m j ≡ None
+  pub none_changed : (f : StoreRow T → StoreRow T) (q : ℕ) (m : Rows T) (j : ℕ) → fin.get (changed_at f q m) j ≡ None → fin.get m j ≡ None
   none_changed f q m j none = go (fin.get m q) refl none
     where
-      go : (o : Option (Entry T)) → fin.get m q ≡ o → fin.get (changed f q m o) j ≡ None → fin.get m j ≡ None
+      go : (o : Option (StoreRow T)) → fin.get m q ≡ o → fin.get (changed f q m o) j ≡ None → fin.get m j ≡ None
       go None is none = none
       go (Some e) is none = elim (cases_eq j q) [
         | inl jq ↦ let bad : None ≡ Some (f e) = sym none ∙ get_same m q (f e) j jq in absurd (cc)
         | inr d ↦ sym (get_other m q (f e) j d) ∙ none
       ]
 
-  none_inserted : (m : Rows T) (k : ℕ) (e : Entry T) (j : ℕ) → fin.get (fin.insert m k e) j ≡ None → (j ≢ k) × (fin.get m j ≡ None)
+  none_inserted : (m : Rows T) (k : ℕ) (e : StoreRow T) (j : ℕ) → fin.get (fin.insert m k e) j ≡ None → (j ≢ k) × (fin.get m j ≡ None)
   none_inserted m k e j none = elim (cases_eq j k) [
     | inl jk ↦ let bad : None ≡ Some e = sym none ∙ get_same m k e j jk in absurd (cc)
     | inr d ↦ (d, sym (get_other m k e j d) ∙ none)
@@ -219,7 +219,7 @@ module _ {T : Type 0} where
     used_apart : (j : ℕ) → IsSome (fin.get rows j) → j ≢ spot
     used_apart j used e = go (fin.get rows spot) spot_free (subst (λ k. IsSome (fin.get rows k)) e used)
       where
-        go : (o : Option (Entry T)) → o ≡ None → IsSome o → ⊥
+        go : (o : Option (StoreRow T)) → o ≡ None → IsSome o → ⊥
         go None e h = cc
         go (Some y) e h = cc
 
@@ -282,7 +282,7 @@ module _ {T : Type 0} where
 
       -- `append`
       module _ (q : ℕ) (up : Link) (used : IsSome (fin.get rows q)) (at : place_of old.heap.arena.cells up.ptr ≡ q) where
-        abbrev parent_row : (e : Entry T) × (fin.get rows q ≡ Some e)
+        abbrev parent_row : (e : StoreRow T) × (fin.get rows q ≡ Some e)
         parent_row = some_row (fin.get rows q) used
 
         up_at : place_of made up.ptr ≡ q

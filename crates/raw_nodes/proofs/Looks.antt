@@ -3,7 +3,7 @@ use Rattle.std.proofs.Common.{◌≡◌, ◌≢◌, ◌==◌, ℕ, zero, suc, �
 use Rattle.std.specs.Prelude.{option_map, option_and_then, IsSome, IfSome}
 use Rattle.std.proofs.lemmas.Bool.{cases_eq, eq-eqb, ne_eqb}
 use denote.RawPtr.{Ptr}
-use Rattle.node_store.specs.Links.{Linked, cell_at, altered, put, with_first, with_last, with_prev, with_next, right_set, left_set, joined}
+use Rattle.node_store.specs.Links.{Linked, linked_cell, altered, put, with_first, with_last, with_prev, with_next, right_set, left_set, joined}
 use Rattle.raw_nodes.specs.Spots.{Spot, same_ptr, places, found, written, updated}
 use Rattle.raw_nodes.specs.Nodes.{place_of, index_in, linked_in, cells_of, Numbered, Chain}
 use Rattle.raw_nodes.specs.Edits.{to_first, to_last, to_prev, to_next, right_put, left_put, join_put}
@@ -27,7 +27,7 @@ none_some (Some x) e h = cc
 module _ {T : Type 0} where
   -- the cell k as a store sees it
   abbrev pub look : List (Spot (Node T)) → ℕ → Option (Linked T)
-  look cells k = cell_at (cells_of cells) k
+  look cells k = linked_cell (cells_of cells) k
 
   -- the same by any numbering of pointers
   abbrev linked_by : (Ptr → ℕ) → Node T → Option (Linked T)

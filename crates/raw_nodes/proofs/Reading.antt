@@ -4,7 +4,7 @@ use Rattle.std.proofs.lemmas.List.{length-map}
 use Rattle.std.specs.Prelude.{option_map, IsSome, IfSome}
 use Rattle.std.specs.FinMap as fin
 use Rattle.node_store.specs.declared.store.Place.{Place}
-use Rattle.node_store.specs.Rows.{Rows, Entry}
+use Rattle.node_store.specs.Rows.{Rows, StoreRow}
 use Rattle.node_store.specs.Links.{rows_of, linked_at}
 use Rattle.node_store.proofs.Maps.{some_row, is_there}
 use Rattle.raw_nodes.specs.Spots.{Spot, found}
@@ -43,7 +43,7 @@ module _ {T : Type 0} where
     pub place_found : (p : Link) → IsSome (fin.get rows (place_of cells p.ptr)) → IsSome (found cells p.ptr)
     place_found p used = found_living cells p (alive_of cells (place_of cells p.ptr) used)
 
-    pub node_keeps : (k : ℕ) (link : Link) (n : Node T) → place_of cells link.ptr ≡ k → found cells link.ptr ≡ Some n → (e : Entry T) → fin.get rows k ≡ Some e → Keeps cells n (linked_at rows k e)
+    pub node_keeps : (k : ℕ) (link : Link) (n : Node T) → place_of cells link.ptr ≡ k → found cells link.ptr ≡ Some n → (e : StoreRow T) → fin.get rows k ≡ Some e → Keeps cells n (linked_at rows k e)
     node_keeps k link n at is e has =
         keeps cells n (linked_at rows k e)
         (sym (look_node cells k n (ap (held_at cells) (sym at) ∙ sym (found_at cells link.ptr) ∙ is)) ∙ raw.store.sound.holds k ∙ ap (option_map (linked_at rows k)) has)
@@ -59,8 +59,8 @@ module _ {T : Type 0} where
     pub root_links : IfSome r.root (λ l. IsSome (fin.get rows (place_of cells l.ptr)))
     root_links = used_links cells rows r.root root_is_used
 
-    module _ (k : ℕ) (used : IsSome (fin.get rows k)) (n : Node T) (all : (e : Entry T) → fin.get rows k ≡ Some e → Keeps cells n (linked_at rows k e)) where
-      abbrev row : (e : Entry T) × (fin.get rows k ≡ Some e)
+    module _ (k : ℕ) (used : IsSome (fin.get rows k)) (n : Node T) (all : (e : StoreRow T) → fin.get rows k ≡ Some e → Keeps cells n (linked_at rows k e)) where
+      abbrev row : (e : StoreRow T) × (fin.get rows k ≡ Some e)
       row = some_row (fin.get rows k) used
 
       links : Keeps cells n (linked_at rows k row.0)

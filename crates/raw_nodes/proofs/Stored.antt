@@ -6,7 +6,7 @@ use Rattle.std.proofs.lemmas.Bool.{cases_eq, eq-eqb, ne_eqb, eqb-true}
 use Rattle.std.proofs.lemmas.List.Sums.{sum_by-cons, count_by-le-length}
 use Rattle.std.proofs.lemmas.List.{map-append, length-append, length-map}
 use denote.RawPtr.{Ptr}
-use Rattle.node_store.specs.Rows.{Rows, Entry, children_of, head_of, last_of, before, after, starts, is_listed, Distinct, IsTree}
+use Rattle.node_store.specs.Rows.{Rows, StoreRow, children_of, head_of, last_of, before, after, starts, is_listed, Distinct, IsTree}
 use Rattle.node_store.specs.Links.{Linked, rows_of, linked_at, IsSound}
 use Rattle.node_store.proofs.Siblings.{head_listed, last_listed, after_listed, before_listed, listed_apart, or_right, none_or}
 use Rattle.node_store.proofs.Maps.{some_row, parent_at, child_at, used_parent, used_child}
@@ -44,7 +44,7 @@ after_apart k (c ∷ cs) j d e = after_step k c j (c == k) cs d.0 (eqb-true c k)
 
 -- ---- rows that links tell
 
-module _ {T : Type 0} (rows : Rows T) (root : Option ℕ) (t : IsTree rows root) (p : ℕ) (e : Entry T) (has : fin.get rows p ≡ Some e) where
+module _ {T : Type 0} (rows : Rows T) (root : Option ℕ) (t : IsTree rows root) (p : ℕ) (e : StoreRow T) (has : fin.get rows p ≡ Some e) where
   used_beside : (k : ℕ) (a : Option ℕ) → is_listed k (children_of rows a) ≡ true → IsSome (fin.get rows k)
   used_beside k None h = absurd (cc)
   used_beside k (Some a) h = used_child rows k a (t.down k a h)
@@ -118,13 +118,13 @@ module _ {T : Type 0} where
     abbrev here : Rows T
     here = rows_of (cells_of cells)
 
-    pub linked : (k : ℕ) → IsSome (fin.get here k) → (e : Entry T) × (fin.get here k ≡ Some e) × (look cells k ≡ Some (linked_at here k e))
+    pub linked : (k : ℕ) → IsSome (fin.get here k) → (e : StoreRow T) × (fin.get here k ≡ Some e) × (look cells k ≡ Some (linked_at here k e))
     linked k used = let e = some_row (fin.get here k) used in (e.0, e.1, sound.holds k ∙ ap (option_map (linked_at here k)) e.1)
 
     pub used_of : (k : ℕ) → IsSome (look cells k) → IsSome (fin.get here k)
     used_of k some = go (fin.get here k) refl (subst (λ o. IsSome o) (sound.holds k) some)
       where
-        go : (o : Option (Entry T)) → fin.get here k ≡ o → IsSome (option_map (linked_at here k) o) → IsSome (fin.get here k)
+        go : (o : Option (StoreRow T)) → fin.get here k ≡ o → IsSome (option_map (linked_at here k) o) → IsSome (fin.get here k)
         go None is h = absurd (cc)
         go (Some e) is h = subst (λ o. IsSome o) (sym is) (search rules)
 

@@ -3,7 +3,7 @@ use Rattle.std.proofs.Common.{◌≡◌, ◌≢◌, ◌==◌, ◌||◌, ℕ, ◌
 use Rattle.std.specs.Prelude.{option_map, IsSome, IfSome}
 use Rattle.std.specs.FinMap as fin
 use Rattle.std.proofs.lemmas.Bool.{cases_eq, eq-eqb, ne_eqb}
-use Rattle.node_store.specs.Rows.{Rows, Entry, head_of, with_payload, children_in, is_listed, children_of, changed_at, unlinked, parent_of, Distinct, IsTree}
+use Rattle.node_store.specs.Rows.{Rows, StoreRow, head_of, with_payload, children_in, is_listed, children_of, changed_at, unlinked, parent_of, Distinct, IsTree}
 use Rattle.node_store.specs.Links.{rows_of, linked_at, with_paid, altered, put, joined, Holds}
 use Rattle.node_store.proofs.Siblings.{or_right, false_of}
 use Rattle.node_store.proofs.Maps.{some_row, is_there, parent_at}
@@ -28,7 +28,7 @@ use Rattle.raw_nodes.proofs.Changing.{none_changed, none_unlinked, unmapped_none
 
 module _ {T : Type 0} where
   module _ (old : RawRows T) (raw : IsRaw old) (k : ℕ) (link : Link) (at : place_of old.heap.arena.cells link.ptr ≡ k)
-      (e : Entry T) (has : fin.get (rows_of (cells_of old.heap.arena.cells)) k ≡ Some e)
+      (e : StoreRow T) (has : fin.get (rows_of (cells_of old.heap.arena.cells)) k ≡ Some e)
       (m : Node T) (there : found old.heap.arena.cells link.ptr ≡ Some m) where
     abbrev were : List (Spot (Node T))
     were = old.heap.arena.cells
@@ -57,7 +57,7 @@ module _ {T : Type 0} where
     siblings_once : Distinct (children_of rows_were e.parent)
     siblings_once = go e.parent
       where
-        at_row : (o : Option (Entry T)) (a : ℕ) → fin.get rows_were a ≡ o → Distinct (children_in o)
+        at_row : (o : Option (StoreRow T)) (a : ℕ) → fin.get rows_were a ≡ o → Distinct (children_in o)
         at_row None a is = tt
         at_row (Some d) a is = tree.once a d is
 
@@ -229,7 +229,7 @@ module _ {T : Type 0} where
   -- ---- a payload is written
 
   module _ (old : RawRows T) (raw : IsRaw old) (k : ℕ) (link : Link) (at : place_of old.heap.arena.cells link.ptr ≡ k)
-      (e : Entry T) (has : fin.get (rows_of (cells_of old.heap.arena.cells)) k ≡ Some e)
+      (e : StoreRow T) (has : fin.get (rows_of (cells_of old.heap.arena.cells)) k ≡ Some e)
       (m : Node T) (there : found old.heap.arena.cells link.ptr ≡ Some m) (w : T) where
     abbrev before_it : List (Spot (Node T))
     before_it = old.heap.arena.cells

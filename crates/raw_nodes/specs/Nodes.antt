@@ -4,7 +4,7 @@ use Rattle.std.specs.Prelude.{◌≡◌, ◌<◌, ◌||◌, ℕ, suc, Bool, true
 use Rattle.std.specs.FinMap as fin
 use denote.RawPtr.{Ptr}
 use Rattle.node_store.specs.Rows.{Distinct, is_listed}
-use Rattle.node_store.specs.Links.{Linked, Cells, cell_at, rows_of, IsSound}
+use Rattle.node_store.specs.Links.{Linked, Cells, linked_cell, rows_of, IsSound}
 use Rattle.raw_nodes.specs.Spots.{Spot, same_ptr}
 use Rattle.raw_nodes.specs.declared.arena.Link.{Link}
 use Rattle.raw_nodes.specs.declared.node.Node.{Node}
@@ -88,7 +88,7 @@ module _ {T : Type 0} where
   pub record IsFree (cells : List (Spot (Node T))) (free : Option Link) (fs : List ℕ) : Type 0 where
     pub chain : Chain cells free fs
     pub once : Distinct fs
-    pub all : (k : ℕ) → k < length cells → cell_at (cells_of cells) k ≡ None → is_listed k fs ≡ true
+    pub all : (k : ℕ) → k < length cells → linked_cell (cells_of cells) k ≡ None → is_listed k fs ≡ true
 
   -- what holds of a store's fields
   pub record IsStore (cells : List (Spot (Node T))) (free root : Option Link) (len most : ℕ) : Type 0 where

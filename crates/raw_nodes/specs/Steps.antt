@@ -3,7 +3,7 @@ use Rattle.std.specs.Prelude.{◌≡◌, ◌<◌, ◌-◌, ℕ, List, Option, �
 use Rattle.std.specs.FinMap as fin
 use denote.RawPtr.{Ptr}
 use Rattle.node_store.specs.Rows.{appended, planted, unlinked, parent_of}
-use Rattle.node_store.specs.Links.{rows_of, cell_at, Holds}
+use Rattle.node_store.specs.Links.{rows_of, linked_cell, Holds}
 use Rattle.raw_nodes.specs.Nodes.{place_of, cells_of, IsFree}
 use Rattle.raw_nodes.specs.Heaps.{IsHeap}
 use Rattle.raw_nodes.specs.Raw.{Raw, raw_of, Spares}
@@ -16,7 +16,7 @@ module _ {T : Type 0} where
     pub heap : IsHeap new.heap
     pub later : List ℕ
     pub free : IsFree new.heap.arena.cells (Some link) (place_of new.heap.arena.cells link.ptr ∷ later)
-    pub holds : Holds (rows_of (cells_of old.heap.arena.cells)) (cell_at (cells_of new.heap.arena.cells))
+    pub holds : Holds (rows_of (cells_of old.heap.arena.cells)) (linked_cell (cells_of new.heap.arena.cells))
     pub fields : (new.root ≡ old.root) × (new.len ≡ old.len) × (new.most ≡ old.most)
     pub stay : (p : Ptr) → place_of old.heap.arena.cells p < length old.heap.arena.cells → place_of new.heap.arena.cells p ≡ place_of old.heap.arena.cells p
     pub spares : Spares (raw_of old) (length new.heap.arena.cells)

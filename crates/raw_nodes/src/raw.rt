@@ -2,7 +2,7 @@
 ghost use Rattle.std.specs.Prelude.{◌≡◌, ◌+◌, ◌<◌, ◌≤◌, ℕ, Option, Some, None, IfOk, IfErr, OnOk, OnErr, IsOk, IfSome, IsSome, max, option_map, is_some, if◌then◌else◌, []};
 ghost use Rattle.std.specs.Borrow.{Lends, sem};
 ghost use Rattle.std.specs.FinMap as map;
-ghost use Rattle.node_store.specs.Rows.{Entry, Rows, IsTree, planted, appended, unlinked, parent_of, next_of, prev_of, head_of, last_of, children_in, changed_at, with_payload};
+ghost use Rattle.node_store.specs.Rows.{StoreRow, Rows, IsTree, planted, appended, unlinked, parent_of, next_of, prev_of, head_of, last_of, children_in, changed_at, with_payload};
 ghost use Rattle.raw_nodes.specs.Raw.{Spares};
 
 use crate::rows::RawRows;
@@ -115,8 +115,8 @@ impl<T> NodeStore<T> for RawNodes<T> {
     /// The same as the trait's. The cell is dead then, and the next one that is used. No block is freed.
     #[inline(always)]
     fn unlink_leaf(&mut self, place: Place) -> T
-        requires { (e : Entry T) × (map.get self.old.rows place.0 ≡ Some e) × (e.children ≡ []) }
-        ensures payload { (e : Entry T) → map.get self.old.rows place.0 ≡ Some e → result ≡ e.payload }
+        requires { (e : StoreRow T) × (map.get self.old.rows place.0 ≡ Some e) × (e.children ≡ []) }
+        ensures payload { (e : StoreRow T) → map.get self.old.rows place.0 ≡ Some e → result ≡ e.payload }
         ensures rows { self.new.rows ≡ unlinked self.old.rows place.0 }
         ensures most { self.new.most ≡ self.old.most }
         ensures root { self.new.root ≡ (if is_some (parent_of self.old.rows place.0) then self.old.root else None) }
@@ -131,7 +131,7 @@ impl<T> NodeStore<T> for RawNodes<T> {
     fn drop_leaf(&mut self, place: Place)
     where
         T: Drop,
-        requires { (e : Entry T) × (map.get self.old.rows place.0 ≡ Some e) × (e.children ≡ []) }
+        requires { (e : StoreRow T) × (map.get self.old.rows place.0 ≡ Some e) × (e.children ≡ []) }
         ensures rows { self.new.rows ≡ unlinked self.old.rows place.0 }
         ensures most { self.new.most ≡ self.old.most }
         ensures root { self.new.root ≡ (if is_some (parent_of self.old.rows place.0) then self.old.root else None) }

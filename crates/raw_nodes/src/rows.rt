@@ -1,7 +1,7 @@
 //! The fields of a raw store, and the steps that keep its rows.
 ghost use Rattle.std.specs.Prelude.{◌≡◌, ◌<◌, ◌≤◌, ℕ, Some, None, [], IfOk, IfErr, OnErr, IsOk, IsSome, IfSome, option_map, length, is_some, if◌then◌else◌};
 ghost use Rattle.std.specs.FinMap as fin;
-ghost use Rattle.node_store.specs.Rows.{Entry};
+ghost use Rattle.node_store.specs.Rows.{StoreRow};
 ghost use Rattle.node_store.specs.Links.{linked_at};
 ghost use Rattle.raw_nodes.specs.Spots.{found, IsInSomeBlock};
 ghost use Rattle.raw_nodes.specs.Nodes.{place_of, index_in, Keeps};
@@ -171,9 +171,9 @@ impl<T> RawRows<T> {
     #[inline(always)]
     pub(crate) fn unlink_leaf(&mut self, place: Place) -> T
         requires raw { IsRaw self.old }
-        requires leaf { (e : Entry T) × (fin.get (raw_of self.old).rows place.0 ≡ Some e) × (e.children ≡ []) }
+        requires leaf { (e : StoreRow T) × (fin.get (raw_of self.old).rows place.0 ≡ Some e) × (e.children ≡ []) }
         ensures raw { IsRaw self.new }
-        ensures payload { (e : Entry T) → fin.get (raw_of self.old).rows place.0 ≡ Some e → result ≡ e.payload }
+        ensures payload { (e : StoreRow T) → fin.get (raw_of self.old).rows place.0 ≡ Some e → result ≡ e.payload }
         ensures left { Unlinks (raw_of self.old) (raw_of self.new) place.0 }
     {
         let link = self.link(place);
@@ -190,7 +190,7 @@ impl<T> RawRows<T> {
     where
         T: Drop,
         requires raw { IsRaw self.old }
-        requires leaf { (e : Entry T) × (fin.get (raw_of self.old).rows place.0 ≡ Some e) × (e.children ≡ []) }
+        requires leaf { (e : StoreRow T) × (fin.get (raw_of self.old).rows place.0 ≡ Some e) × (e.children ≡ []) }
         ensures raw { IsRaw self.new }
         ensures left { Unlinks (raw_of self.old) (raw_of self.new) place.0 }
     {
@@ -225,7 +225,7 @@ impl<T> RawRows<T> {
     pub(crate) fn node(&self, place: Place) -> &Node<T>
         requires raw { IsRaw self.now }
         requires used { IsSome (fin.get (raw_of self.now).rows place.0) }
-        ensures { (e : Entry T) → fin.get (raw_of self.now).rows place.0 ≡ Some e
+        ensures { (e : StoreRow T) → fin.get (raw_of self.now).rows place.0 ≡ Some e
             → Keeps self.now.heap.arena.cells result.now (linked_at (raw_of self.now).rows place.0 e) }
     {
         self.heap.arena.follow(self.link(place))

@@ -2,7 +2,7 @@
 use Rattle.std.proofs.Common.{◌≡◌, ℕ, ◌+◌, ◌-◌, ◌≤◌, max, true, List, [], ◌∷◌, ◌++◌, length, drop, ◌∙◌, ap, arith, append_assoc, Some, None, Option}
 use Rattle.std.proofs.lemmas.List.{append-nil, length-append, length-drop, take-append-drop}
 use Rattle.std.proofs.lemmas.Bool.{and_parts}
-use Rattle.gcx_model.specs.Tree.{Node, Tree, Token, Start, Chars, End, opening, grow, grow_all}
+use Rattle.gcx_model.specs.Tree.{Node, Tree, TreeToken, Start, Chars, End, opening, grow, grow_all}
 use Rattle.gcx_model.specs.Core.{BodyTree, PlanTree}
 use Rattle.gcx_model.specs.Run.{Action, env0}
 use Rattle.gcx_model.specs.Cores.{Good}
@@ -21,14 +21,14 @@ use Rattle.run_laws.specs.Peaks.{PeakStep, HeldCounts, PeakWithin}
 
 -- The peak
 
-abbrev held_on : PlanTree → Tree → (before : List Token) (t : Token) → List Node
+abbrev held_on : PlanTree → Tree → (before : List TreeToken) (t : TreeToken) → List Node
 held_on plan P before t = held plan (grow t (grow_all before P)) (actions plan (grow_all before P))
 
-step_from : (plan : PlanTree) (ts : List Token) (t : Token) (P : Tree) → peak_from plan (ts ++ t ∷ []) P ≡ max (peak_from plan ts P) (length (held_on plan P ts t))
+step_from : (plan : PlanTree) (ts : List TreeToken) (t : TreeToken) (P : Tree) → peak_from plan (ts ++ t ∷ []) P ≡ max (peak_from plan ts P) (length (held_on plan P ts t))
 step_from plan [] t P = omega arith
 step_from plan (u ∷ ts) t P = let h = step_from plan ts t (grow u P) in omega arith
 
-longer_from : (plan : PlanTree) (ts us : List Token) (P : Tree) → peak_from plan ts P ≤ peak_from plan (ts ++ us) P
+longer_from : (plan : PlanTree) (ts us : List TreeToken) (P : Tree) → peak_from plan ts P ≤ peak_from plan (ts ++ us) P
 longer_from plan [] us P = omega arith
 longer_from plan (t ∷ ts) us P = let h = longer_from plan ts us (grow t P) in omega arith
 
@@ -37,17 +37,17 @@ peak_step plan ts = ((λ t. let h = step_from plan ts t opening in omega arith),
 
 -- Held nodes
 
-one_added : (at : Option Node) (t : Token) (P : Tree) → length (added_at at t P) ≤ 1
+one_added : (at : Option Node) (t : TreeToken) (P : Tree) → length (added_at at t P) ≤ 1
 one_added None t P = omega arith
 one_added (Some p) (Start name) P = omega arith
 one_added (Some p) (Chars b) P = omega arith
 one_added (Some p) End P = omega arith
 
-one_more : (P : Tree) (t : Token) → length (grow t P).nodes ≤ length P.nodes + 1
+one_more : (P : Tree) (t : TreeToken) → length (grow t P).nodes ≤ length P.nodes + 1
 one_more P t = let h = ap length (grow_nodes t P) ∙ length-append P.nodes (added t P) in let k = one_added P.at t P in omega arith
 
 module _ (core : BodyTree) (good : Good core) (plan : PlanTree) (pl : Placed core plan) where
-  behind_token : (P : Tree) (A : List Action) → Leads opening P → (t : Token) → length (held plan (grow t P) A) ≤ length (held plan P A) + (length (grow t P).nodes - length P.nodes)
+  behind_token : (P : Tree) (A : List Action) → Leads opening P → (t : TreeToken) → length (held plan (grow t P) A) ≤ length (held plan P A) + (length (grow t P).nodes - length P.nodes)
   behind_token P A l t =
       let new : List Node = drop (length P.nodes) (grow t P).nodes in
       let e = ap length (held_by_feed core good plan pl P l t A) in
@@ -67,7 +67,7 @@ module _ (core : BodyTree) (good : Good core) (plan : PlanTree) (pl : Placed cor
       let k = behind_act P A b in
       omega arith
 
-  behind_tokens : (us : List Token) (P : Tree) (A : List Action) → Leads opening P → may_all us P ≡ true → length (held plan (grow_all us P) A) ≤ length (held plan P A) + length us
+  behind_tokens : (us : List TreeToken) (P : Tree) (A : List Action) → Leads opening P → may_all us P ≡ true → length (held plan (grow_all us P) A) ≤ length (held plan P A) + length us
   behind_tokens [] P A l m = omega arith
   behind_tokens (u ∷ us) P A l m =
       let a = and_parts (may_come u P) (may_all us (grow u P)) m in
@@ -77,7 +77,7 @@ module _ (core : BodyTree) (good : Good core) (plan : PlanTree) (pl : Placed cor
       omega arith
 
   -- behind all actions no more are held than the peak
-  all_taken : (ts : List Token) (P : Tree) → Leads opening P → may_all ts P ≡ true
+  all_taken : (ts : List TreeToken) (P : Tree) → Leads opening P → may_all ts P ≡ true
       → length (held plan (grow_all ts P) (actions plan (grow_all ts P))) ≤ max (length (held plan P (actions plan P))) (peak_from plan ts P)
   all_taken [] P l m = omega arith
   all_taken (t ∷ ts) P l m =
@@ -89,13 +89,13 @@ module _ (core : BodyTree) (good : Good core) (plan : PlanTree) (pl : Placed cor
       let k = behind_acts (grow t P) q.0 (actions plan P) in
       omega arith
 
-  late : (P : Tree) (t : Token) (k : ℕ) → length (held plan (grow t P) (actions plan P)) ≤ length (held plan (grow t P) (so_far plan P k))
+  late : (P : Tree) (t : TreeToken) (k : ℕ) → length (held plan (grow t P) (actions plan P)) ≤ length (held plan (grow t P) (so_far plan P k))
   late P t k =
       let e = ap (λ (z : List Action). length (held plan (grow t P) z)) (take-append-drop k (actions plan P)) in
       let h = behind_acts (grow t P) (drop k (actions plan P)) (so_far plan P k) in
       omega arith
 
-  most : (ts us : List Token) → may_all ts opening ≡ true → may_all us (grow_all ts opening) ≡ true
+  most : (ts us : List TreeToken) → may_all ts opening ≡ true → may_all us (grow_all ts opening) ≡ true
       → length (held plan (grow_all us (grow_all ts opening)) (actions plan (grow_all ts opening))) ≤ peak_of plan (ts ++ us) + (length us - 1)
   most ts [] m n =
       let h = all_taken ts opening stays m in

@@ -4,12 +4,12 @@ use Rattle.std.specs.List.{filter}
 use Rattle.std.proofs.lemmas.List.{append-nil, length-append}
 use Rattle.std.proofs.lemmas.List.Elements.{filter-append}
 use Rattle.std.proofs.lemmas.Bool.{ltb-true, lt-ltb, not-false}
-use Rattle.gcx_model.specs.Tree.{Node, Root, Under, serial_of, above, Tree, Token, grow, grow_all, is_open_at, is_closed}
+use Rattle.gcx_model.specs.Tree.{Node, Root, Under, serial_of, above, Tree, TreeToken, grow, grow_all, is_open_at, is_closed}
 use Rattle.gcx_model.specs.Paths.{hits, matches}
 use Rattle.gcx_model.specs.Members.{In}
 use Rattle.gcx_model.specs.Nodes.{Numbered, Grown}
 use Rattle.gcx_model.specs.Answer.{is_any}
-use Rattle.gcx_model.specs.Core.{OperandTree, Path, Str, Num, CondTree, CondTrees, Always, Exists, Compare, Not, All, Any, no_cond, more_conds, First, Whole, RoleRowTree}
+use Rattle.gcx_model.specs.Core.{OperandTree, Path, Str, Num, CondTree, CondTrees, Always, Exists, Compare, Not, AllOf, AnyOf, no_cond, more_conds, First, Whole, RoleRowTree}
 use Rattle.gcx_model.specs.Roles.{operand_rows, cond_rows, conds_rows}
 use Rattle.gcx_model.specs.declared.truth.Truth.{Truth}
 use Rattle.gcx_model.specs.declared.truth.Truth.TheVariants.{Unknown}
@@ -32,7 +32,7 @@ use Rattle.run_laws.specs.Feeding.{NodesGrow, MatchesGrow, TruthStays, OpenChain
 abbrev Longer : Tree → Tree → Type 0
 Longer P Q = (more : List Node) × (Q.nodes ≡ P.nodes ++ more)
 
-added_all : (ts : List Token) (P : Tree) → Longer P (grow_all ts P)
+added_all : (ts : List TreeToken) (P : Tree) → Longer P (grow_all ts P)
 added_all [] P = ([], sym (append-nil P.nodes))
 added_all (t ∷ ts) P = let r = added_all ts (grow t P) in (added t P ++ r.0, r.1 ∙ (ap (λ z. z ++ r.0) (grow_nodes t P) ∙ append_assoc P.nodes (added t P) r.0))
 
@@ -81,8 +81,8 @@ mutual
       let hr : (q : RoleRowTree) → In q (operand_rows r) → u q.var ≡ v q.var = λ q i. h q (In-right q (operand_rows l) (operand_rows r) i) in
       rw (values_by P l u v hl, values_by P r u v hr, over_by P l u v hl, over_by P r u v hr) refl
   truth_by P (Not c) u v h = ap negate (truth_by P c u v h)
-  truth_by P (All cs) u v h = all_by P cs u v h
-  truth_by P (Any cs) u v h = any_by P cs u v h
+  truth_by P (AllOf cs) u v h = all_by P cs u v h
+  truth_by P (AnyOf cs) u v h = any_by P cs u v h
 
   all_by : (P : Tree) (cs : CondTrees) (u v : Env) → ((r : RoleRowTree) → In r (conds_rows cs) → u r.var ≡ v r.var) → truth_all cs u P ≡ truth_all cs v P
   all_by P no_cond u v h = refl
@@ -100,7 +100,7 @@ mutual
 abbrev Low : Env → ℕ → Type 0
 Low env n = (x : ℕ) → serial_of (env x) < n
 
-truth_stays_all : (ts : List Token) (P : Tree) → Grown P → (c : CondTree) (env : Env) (k : Truth) → Low env (length P.nodes) → truth c env P ≡ k → (k ≡ Unknown → ⊥) → truth c env (grow_all ts P) ≡ k
+truth_stays_all : (ts : List TreeToken) (P : Tree) → Grown P → (c : CondTree) (env : Env) (k : Truth) → Low env (length P.nodes) → truth c env P ≡ k → (k ≡ Unknown → ⊥) → truth c env (grow_all ts P) ≡ k
 truth_stays_all [] P w c env k b e n = e
 truth_stays_all (t ∷ ts) P w c env k b e n =
     let l = ap length (grow_nodes t P) ∙ length-append P.nodes (added t P) in

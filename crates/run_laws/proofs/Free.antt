@@ -4,7 +4,7 @@ use Rattle.std.proofs.lemmas.List.{append-nil}
 use Rattle.std.proofs.lemmas.Bool.{true≢false, false≢true}
 use Rattle.gcx_model.specs.Tree.{Node, Root, serial_of, Tree, opening}
 use Rattle.gcx_model.specs.Members.{In, Once}
-use Rattle.gcx_model.specs.Core.{ItemTree, For, Off, BodyTree, Nil, Then, OffTree, PlanTree}
+use Rattle.gcx_model.specs.Core.{ItemTree, For, SignOff, BodyTree, Nil, Then, OffTree, PlanTree}
 use Rattle.gcx_model.specs.Truth.{Env}
 use Rattle.gcx_model.specs.Run.{Action, Offed, Out, idle, seq, seq_if, run_item, run, env0}
 use Rattle.gcx_model.specs.Variables.{Var, var_tree, item_vars, vars}
@@ -14,7 +14,7 @@ use Rattle.gcx_model.specs.Placed.{at_end, place, statement, offs_of, placed_bod
 use Rattle.gcx_model.specs.Held.{held}
 use Rattle.gcx_model.specs.Growth.{Leads, stays, more}
 use Rattle.gcx_model.specs.Needs.{Needs}
-use Rattle.gcx_model.specs.Points.{actions, so_far, here, fed, CoreState, Frame, Rest, Round, Part, to_come, IsPoint, Begins, Past, InLoop, InYes, InNo, InCopy, PointAt, Bound_in}
+use Rattle.gcx_model.specs.Points.{actions, so_far, here, fed, CoreState, Frame, Rest, LoopRound, CopyPart, to_come, IsPoint, Begins, PastItem, InLoop, InYes, InNo, InCopy, PointAt, Bound_in}
 use Rattle.tree_laws.proofs.Lists.{In-left, In-right}
 use Rattle.tree_laws.proofs.Fed.{root_from}
 use Rattle.placed_laws.proofs.PointForms.{seq-idle}
@@ -35,15 +35,15 @@ use Rattle.run_laws.specs.Bindings.{IsFree, LoopVariableFree, RoundVariableFree,
 abbrev binders : List Frame → List ℕ
 binders [] = []
 binders (Rest d env ∷ fs) = binders fs
-binders (Round x y s e env n ∷ fs) = x ∷ binders fs
-binders (Part x env k ∷ fs) = binders fs
+binders (LoopRound x y s e env n ∷ fs) = x ∷ binders fs
+binders (CopyPart x env k ∷ fs) = binders fs
 
 bound_binder : (z : ℕ) (m : Node) (fs : List Frame) → Bound_in z m fs → (z ≡ 0) ⊎ In z (binders fs)
 bound_binder z m [] b = inl b.0
 bound_binder z m (Rest d env ∷ fs) b = bound_binder z m fs b
-bound_binder z m (Part x env k ∷ fs) b = bound_binder z m fs b
-bound_binder z m (Round x y s e env n ∷ fs) (inl b) = inr (inl b.0)
-bound_binder z m (Round x y s e env n ∷ fs) (inr b) = elim (bound_binder z m fs b) [ inl e ↦ inl e | inr i ↦ inr (inr i) ]
+bound_binder z m (CopyPart x env k ∷ fs) b = bound_binder z m fs b
+bound_binder z m (LoopRound x y s e env n ∷ fs) (inl b) = inr (inl b.0)
+bound_binder z m (LoopRound x y s e env n ∷ fs) (inr b) = elim (bound_binder z m fs b) [ inl e ↦ inl e | inr i ↦ inr (inr i) ]
 
 -- it is one of these variables, and no round below has it
 abbrev Free : List ℕ → ℕ → List Frame → Type 0
@@ -51,8 +51,8 @@ Free V x below = In x V × (In x (binders below) → ⊥)
 
 abbrev Free_frame : List ℕ → Frame → List Frame → Type 0
 Free_frame V (Rest d env) below = (z : ℕ) → In z (vars d) → Free V z below
-Free_frame V (Round x y s e env n) below = Free V x below
-Free_frame V (Part x env k) below = Unit {0}
+Free_frame V (LoopRound x y s e env n) below = Free V x below
+Free_frame V (CopyPart x env k) below = Unit {0}
 
 abbrev All_free : List ℕ → List Frame → Type 0
 All_free V [] = Unit {0}
@@ -61,16 +61,16 @@ All_free V (f ∷ fs) = Free_frame V f fs × All_free V fs
 module _ (P : Tree) (V : List ℕ) where
   all_free : (d : BodyTree) (env : Env) (before : List Action) (fs gs : List Frame) → IsPoint P d env before fs → Once (vars d) → ((z : ℕ) → In z (vars d) → Free V z gs) → All_free V gs → All_free V (fs ++ gs)
   all_free d env before fs gs Begins o h g = (h, g)
-  all_free d env before fs gs (Past {i = i} {d = rest} {before = before'} e st) o h g =
+  all_free d env before fs gs (PastItem {i = i} {d = rest} {before = before'} e st) o h g =
       all_free rest env before' fs gs st (Once-right (item_vars i) (vars rest) o) (λ z k. h z (In-right z (item_vars i) (vars rest) k)) g
   all_free d env before fs gs (InLoop {x = x} {y = y} {s = s} {e = e} {d = rest} {before = before'} {fs = fs'} pre n post m dn st) o h g =
       let once : Once (x ∷ vars e) = Once-left (x ∷ vars e) (vars rest) o in
       let in_rest : (z : ℕ) → In z (vars rest) → Free V z gs = λ z k. h z (In-right z (x ∷ vars e) (vars rest) k) in
-      let below : List Frame = Round x y s e env n ∷ (Rest rest env ∷ gs) in
+      let below : List Frame = LoopRound x y s e env n ∷ (Rest rest env ∷ gs) in
       let in_body : (z : ℕ) → In z (vars e) → Free V z below = λ z k.
       let f = h z (In-left z (x ∷ vars e) (vars rest) (inr k)) in
       (f.0, λ b. elim b [ inl q ↦ once.0 (subst (λ (a : ℕ). In a (vars e)) (sym q) k) | inr c ↦ f.1 c ]) in
-      subst (λ (z : List Frame). All_free V z) (sym (append_assoc fs' (Round x y s e env n ∷ (Rest rest env ∷ [])) gs))
+      subst (λ (z : List Frame). All_free V z) (sym (append_assoc fs' (LoopRound x y s e env n ∷ (Rest rest env ∷ [])) gs))
       (all_free e _ before' fs' below st once.1 in_body (h x (inl refl), (in_rest, g)))
   all_free d env before fs gs (InYes {c = c} {a = a} {b = b} {d = rest} {fs = fs'} e st) o h g =
       subst (λ (z : List Frame). All_free V z) (sym (append_assoc fs' (Rest rest env ∷ []) gs))
@@ -109,7 +109,7 @@ pub loop_variable_free : LoopVariableFree
 loop_variable_free core good plan pl P k top below x y s e d env st = is_free core good plan pl x below (free_frame core good plan pl P k top below (Rest (Then (For x y s e) d) env) st x (inl refl))
 
 pub round_variable_free : RoundVariableFree
-round_variable_free core good plan pl P k top below x y s e env n st = is_free core good plan pl x below (free_frame core good plan pl P k top below (Round x y s e env n) st)
+round_variable_free core good plan pl P k top below x y s e env n st = is_free core good plan pl x below (free_frame core good plan pl P k top below (LoopRound x y s e env n) st)
 
 -- Actions
 
@@ -135,7 +135,7 @@ filled x xs e = absurd (cc)
 pub some_acts : (o : OffTree) (d : BodyTree) (env : Env) (P : Tree) → Has o d → run d env P ≡ idle true → ⊥
 some_acts o Nil env P h e = h
 some_acts o (Then i d) env P (inl q) e =
-    let a : run_item (Off o) env P ≡ idle true = ap (λ (z : ItemTree). run_item z env P) (sym q) ∙ (not_idle (run_item i env P) (run d env P) e).0 in
+    let a : run_item (SignOff o) env P ≡ idle true = ap (λ (z : ItemTree). run_item z env P) (sym q) ∙ (not_idle (run_item i env P) (run d env P) e).0 in
     filled (Offed o (serial_of (env o.base))) [] (ap (λ (z : Out). z.acts) a)
 some_acts o (Then i d) env P (inr h) e = some_acts o d env P h (not_idle (run_item i env P) (run d env P) e).1
 

@@ -2,7 +2,7 @@
 use Rattle.std.proofs.Common.{◌≡◌, ℕ, ◌≤◌, true, List, [], ◌∷◌, ◌++◌, refl, sym, ◌∙◌, ap, subst, arith, append_assoc}
 use Rattle.std.specs.List.{flat_map}
 use Rattle.std.proofs.lemmas.Grind.{flat_map-append}
-use Rattle.gcx_model.specs.Tree.{Tree, Root, Token, opening, grow, grow_all}
+use Rattle.gcx_model.specs.Tree.{Tree, Root, TreeToken, opening, grow, grow_all}
 use Rattle.gcx_model.specs.Core.{PlanTree}
 use Rattle.gcx_model.specs.Run.{run, env0, bytes_of}
 use Rattle.gcx_model.specs.Placed.{plan_of}
@@ -22,7 +22,7 @@ known_goes_on q P Q l m =
 
 -- the tokens of P and those from P to Q
 abbrev pub Fed_on : Tree → Tree → Type 0
-Fed_on P Q = (ts us : List Token) × (may_all (ts ++ us) opening ≡ true) × (P ≡ tree ts) × (tokens_of P ≡ ts) × (tokens_of Q ≡ ts ++ us)
+Fed_on P Q = (ts us : List TreeToken) × (may_all (ts ++ us) opening ≡ true) × (P ≡ tree ts) × (tokens_of P ≡ ts) × (tokens_of Q ≡ ts ++ us)
 
 pub fed_on : (P Q : Tree) → Leads opening P → Leads P Q → Fed_on P Q
 fed_on P Q l m =
@@ -33,18 +33,18 @@ fed_on P Q l m =
     (a.0, b.0, c, a.2, ap tokens_of a.2 ∙ tokens_found a.0 a.1, ap tokens_of e ∙ tokens_found (a.0 ++ b.0) c)
 
 module _ (plan : PlanTree) where
-  pub demand-append : (ts us : List Token) (P : Tree) → demand plan (ts ++ us) P ≡ demand plan ts P ++ demand plan us (grow_all ts P)
+  pub demand-append : (ts us : List TreeToken) (P : Tree) → demand plan (ts ++ us) P ≡ demand plan ts P ++ demand plan us (grow_all ts P)
   demand-append [] us P = refl
   demand-append (t ∷ ts) us P =
       ap (λ z. feed_lines plan t P (grow t P) (actions plan P) ++ z) (demand-append ts us (grow t P))
       ∙ sym (append_assoc (feed_lines plan t P (grow t P) (actions plan P)) (demand plan ts (grow t P)) (demand plan us (grow_all ts (grow t P))))
 
-  pub trace_lines-append : (ts us : List Token) → trace_lines plan (ts ++ us) ≡ trace_lines plan ts ++ demand plan us (tree ts)
+  pub trace_lines-append : (ts us : List TreeToken) → trace_lines plan (ts ++ us) ≡ trace_lines plan ts ++ demand plan us (tree ts)
   trace_lines-append ts us =
       let a : List Line = act_lines plan opening [] (actions plan opening) in
       ap (λ z. opened_line plan opening Root ∷ (a ++ z)) (demand-append ts us opening) ∙ ap (λ z. opened_line plan opening Root ∷ z) (sym (append_assoc a (demand plan ts opening) (demand plan us (tree ts))))
 
-  peak_from-append : (ts us : List Token) (P : Tree) → peak_from plan ts P ≤ peak_from plan (ts ++ us) P
+  peak_from-append : (ts us : List TreeToken) (P : Tree) → peak_from plan ts P ≤ peak_from plan (ts ++ us) P
   peak_from-append [] us P = omega arith
   peak_from-append (t ∷ ts) us P = let h = peak_from-append ts us (grow t P) in omega arith
 
@@ -52,8 +52,8 @@ pub trace_goes_on : TraceGoesOn
 trace_goes_on q P Q l m =
     let plan : PlanTree = plan_of (normal q) in
     let f = fed_on P Q l m in
-    let ts : List Token = f.0 in
-    let us : List Token = f.1 in
+    let ts : List TreeToken = f.0 in
+    let us : List TreeToken = f.1 in
     let text : Line → List ℕ = λ l. line_text l ++ 10 ∷ [] in (
       text_of_lines (demand plan us (tree ts)),
       ap (λ z. text_of_lines (trace_lines plan z)) f.5
@@ -68,4 +68,4 @@ peak_goes_on q P Q l m =
     let f = fed_on P Q l m in
     let h = peak_from-append plan f.0 f.1 opening in
     let less : peak_of plan f.0 ≤ peak_of plan (f.0 ++ f.1) = omega arith in
-    subst (λ (z : List Token). peak_of plan z ≤ peak q Q) (sym f.4) (subst (λ (z : List Token). peak_of plan f.0 ≤ peak_of plan z) (sym f.5) less)
+    subst (λ (z : List TreeToken). peak_of plan z ≤ peak q Q) (sym f.4) (subst (λ (z : List TreeToken). peak_of plan f.0 ≤ peak_of plan z) (sym f.5) less)

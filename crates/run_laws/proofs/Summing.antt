@@ -4,7 +4,7 @@ use Rattle.std.specs.List.{filter}
 use Rattle.std.proofs.Math.Seq.{drop-append_seam}
 use Rattle.std.proofs.lemmas.List.Sums.{sum-map, sum_by-cons, sum_by_push}
 use Rattle.std.proofs.lemmas.Bool.{or_right, and_from, eq-eqb, ne_eqb, true≢false, false≢true}
-use Rattle.gcx_model.specs.Tree.{Node, serial_of, within, Tree, Token, opening, grow, is_open_at}
+use Rattle.gcx_model.specs.Tree.{Node, serial_of, within, Tree, TreeToken, opening, grow, is_open_at}
 use Rattle.gcx_model.specs.Paths.{matches}
 use Rattle.gcx_model.specs.Members.{In, Once, count}
 use Rattle.gcx_model.specs.Core.{BodyTree, OffTree, PlanTree}
@@ -150,7 +150,7 @@ module _ (plan : PlanTree) where
 
 -- A token
 
-module _ (past : Past) (is : IsPast past) (t : Token) (may : may_come t past.tree ≡ true) where
+module _ (past : Past) (is : IsPast past) (t : TreeToken) (may : may_come t past.tree ≡ true) where
   abbrev Q : Tree
   Q = grow t past.tree
 

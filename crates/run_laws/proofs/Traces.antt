@@ -6,7 +6,7 @@ use Rattle.std.proofs.lemmas.List.{length-append}
 use Rattle.std.proofs.lemmas.Bool.{and_parts, cases_lt}
 use Rattle.std.proofs.lemmas.Option.{same_Some}
 use Rattle.gcx_base.specs.declared.kind.Kind.TheVariants.{Element, Text}
-use Rattle.gcx_model.specs.Tree.{Node, Root, Under, serial_of, kind_of, Tree, Token, Start, Chars, End, opening, grow, grow_at, grow_all}
+use Rattle.gcx_model.specs.Tree.{Node, Root, Under, serial_of, kind_of, Tree, TreeToken, Start, Chars, End, opening, grow, grow_at, grow_all}
 use Rattle.gcx_model.specs.Members.{In}
 use Rattle.gcx_model.specs.Nodes.{Rising, Numbered, Grown}
 use Rattle.gcx_model.specs.Core.{PlanTree}
@@ -15,7 +15,7 @@ use Rattle.gcx_model.specs.Held.{roles_given, is_held, held, departed}
 use Rattle.gcx_model.specs.Growth.{Grow, opened, added, closed, ended, Leads, stays, more, may_come, may_all}
 use Rattle.gcx_model.specs.Points.{actions, so_far, here, fed, acted, CoreState}
 use Rattle.gcx_model.specs.Demand.{Line, Opened, Closed, Left, line_kind, action_line, left, act_lines, feed_line, demand, peak_from, peak_of}
-use Rattle.run_laws.specs.Trace.{Event, Feed, Act, tree_before, taken_before, tree_behind, taken_behind, DemandRun, acts, feeds, ends, OneDemandRun, EventsAreReached, IsLine, AreLeaving, Tell, TraceByEvents, OneTelling, held_at, PeakIsGreatest}
+use Rattle.run_laws.specs.Trace.{Event, FeedEvent, ActEvent, tree_before, taken_before, tree_behind, taken_behind, DemandRun, acts, feeds, ends, OneDemandRun, EventsAreReached, IsLine, AreLeaving, Tell, TraceByEvents, OneTelling, held_at, PeakIsGreatest}
 use Rattle.tree_laws.proofs.Lists.{In-left, In-right, In-append, In-filter}
 use Rattle.tree_laws.proofs.Matches.{Numbered-low, Numbered-high, Grown-grow, added as added_nodes, grow_nodes}
 use Rattle.tree_laws.proofs.Growing.{grows}
@@ -58,19 +58,19 @@ open_node P Q (ended at h n a) = (Root, at)
 
 module _ (plan : PlanTree) where
   -- all that is taken stays taken while a token comes
-  longer : (P : Tree) → Leads opening P → (t : Token) → Grow P (grow t P) → (rest : List Action) × (actions plan (grow t P) ≡ actions plan P ++ rest)
+  longer : (P : Tree) → Leads opening P → (t : TreeToken) → Grow P (grow t P) → (rest : List Action) × (actions plan (grow t P) ≡ actions plan P ++ rest)
   longer P l t g = (prefix_law P (grow t P) l (more stays g) plan.body env0 (λ x. root_from P l)).0
 
   -- the events
 
-  abbrev Run_from : Tree → ℕ → List Token → Type 0
+  abbrev Run_from : Tree → ℕ → List TreeToken → Type 0
   Run_from P k ts = (es : List Event) × DemandRun plan P k ts es
 
-  acts_up : (P : Tree) (ts : List Token) (n k : ℕ) → k + n ≡ length (actions plan P) → ((j : ℕ) → j ≡ length (actions plan P) → Run_from P j ts) → Run_from P k ts
+  acts_up : (P : Tree) (ts : List TreeToken) (n k : ℕ) → k + n ≡ length (actions plan P) → ((j : ℕ) → j ≡ length (actions plan P) → Run_from P j ts) → Run_from P k ts
   acts_up P ts zero k e h = h k (omega arith)
-  acts_up P ts (suc n) k e h = let r = acts_up P ts n (suc k) (omega arith) h in (Act P k ∷ r.0, acts (omega arith) r.1)
+  acts_up P ts (suc n) k e h = let r = acts_up P ts n (suc k) (omega arith) h in (ActEvent P k ∷ r.0, acts (omega arith) r.1)
 
-  run_from : (ts : List Token) (P : Tree) → Leads opening P → may_all ts P ≡ true → (j : ℕ) → j ≡ length (actions plan P) → Run_from P j ts
+  run_from : (ts : List TreeToken) (P : Tree) → Leads opening P → may_all ts P ≡ true → (j : ℕ) → j ≡ length (actions plan P) → Run_from P j ts
   run_from [] P l m j e = ([], ends e)
   run_from (t ∷ ts) P l m j e =
       let a = and_parts (may_come t P) (may_all ts (grow t P)) m in
@@ -78,18 +78,18 @@ module _ (plan : PlanTree) where
       let q = longer P l t g in
       let n : j + length q.0 ≡ length (actions plan (grow t P)) = ap (λ (z : ℕ). z + length q.0) e ∙ (sym (length-append (actions plan P) q.0) ∙ ap length (sym q.1)) in
       let r = acts_up (grow t P) ts (length q.0) j n (run_from ts (grow t P) (more l g) a.1) in
-      (Feed t P j ∷ r.0, feeds e r.1)
+      (FeedEvent t P j ∷ r.0, feeds e r.1)
 
-  same_run : (P : Tree) (k : ℕ) (ts : List Token) (es fs : List Event) → DemandRun plan P k ts es → DemandRun plan P k ts fs → fs ≡ es
-  same_run P k ts es fs (acts {es = es'} l h) (acts {es = fs'} l' h') = ap (λ z. Act P k ∷ z) (same_run P (suc k) ts es' fs' h h')
+  same_run : (P : Tree) (k : ℕ) (ts : List TreeToken) (es fs : List Event) → DemandRun plan P k ts es → DemandRun plan P k ts fs → fs ≡ es
+  same_run P k ts es fs (acts {es = es'} l h) (acts {es = fs'} l' h') = ap (λ z. ActEvent P k ∷ z) (same_run P (suc k) ts es' fs' h h')
   same_run P k ts es fs (acts l h) (feeds e h') = absurd (omega arith)
   same_run P k ts es fs (acts l h) (ends e) = absurd (omega arith)
   same_run P k ts es fs (feeds e h) (acts l h') = absurd (omega arith)
-  same_run P k ts es fs (feeds {t = t} {ts = us} {es = es'} e h) (feeds {es = fs'} e' h') = ap (λ z. Feed t P k ∷ z) (same_run (grow t P) k us es' fs' h h')
+  same_run P k ts es fs (feeds {t = t} {ts = us} {es = es'} e h) (feeds {es = fs'} e' h') = ap (λ z. FeedEvent t P k ∷ z) (same_run (grow t P) k us es' fs' h h')
   same_run P k ts es fs (ends e) (acts l h) = absurd (omega arith)
   same_run P k ts es fs (ends e) (ends e') = refl
 
-  reached : (P : Tree) (k : ℕ) (ts : List Token) (es : List Event) → DemandRun plan P k ts es → may_all ts P ≡ true → CoreState plan P k
+  reached : (P : Tree) (k : ℕ) (ts : List TreeToken) (es : List Event) → DemandRun plan P k ts es → may_all ts P ≡ true → CoreState plan P k
       → (e : Event) → In e es → CoreState plan (tree_before e) (taken_before e) × CoreState plan (tree_behind e) (taken_behind e)
   reached P k ts es (acts l h) m r e (inl f) = subst (λ (z : Event). CoreState plan (tree_before z) (taken_before z) × CoreState plan (tree_behind z) (taken_behind z)) f (r, acted r l)
   reached P k ts es (acts {es = es'} l h) m r e (inr i) = reached P (suc k) ts es' h m (acted r l) e i
@@ -104,7 +104,7 @@ module _ (plan : PlanTree) where
 
   -- the lines
 
-  line_at : (at : Option Node) (p : Node) (t : Token) (P : Tree) (k : ℕ) → P.at ≡ at → at ≡ Some p → (l : Line) × (feed_line plan t at P (grow_at at t P) ≡ l ∷ [])
+  line_at : (at : Option Node) (p : Node) (t : TreeToken) (P : Tree) (k : ℕ) → P.at ≡ at → at ≡ Some p → (l : Line) × (feed_line plan t at P (grow_at at t P) ≡ l ∷ [])
       × (((n : Node) × ((grow_at at t P).nodes ≡ P.nodes ++ n ∷ []) × (l ≡ Opened (serial_of n) (line_kind (kind_of n)) (roles_given plan (grow_at at t P) n)))
       ⊎ (((grow_at at t P).nodes ≡ P.nodes) × ((q : Node) × (P.at ≡ Some q) × (l ≡ Closed (serial_of q)))))
   line_at None p t P k e f = absurd (cc)
@@ -113,16 +113,16 @@ module _ (plan : PlanTree) where
   line_at (Some Root) p End P k e f = (_, refl, inr (refl, (Root, e, refl)))
   line_at (Some (Under q s j)) p End P k e f = (_, refl, inr (refl, (Under q s j, e, refl)))
 
-  abbrev Own_line : Token → Tree → ℕ → Type 0
-  Own_line t P k = (l : Line) × (feed_line plan t P.at P (grow t P) ≡ l ∷ []) × IsLine plan (Feed t P k) l
+  abbrev Own_line : TreeToken → Tree → ℕ → Type 0
+  Own_line t P k = (l : Line) × (feed_line plan t P.at P (grow t P) ≡ l ∷ []) × IsLine plan (FeedEvent t P k) l
 
-  own_line : (t : Token) (P : Tree) (k : ℕ) → Grow P (grow t P) → Own_line t P k
+  own_line : (t : TreeToken) (P : Tree) (k : ℕ) → Grow P (grow t P) → Own_line t P k
   own_line t P k g = let o = open_node P (grow t P) g in line_at P.at o.0 t P k refl o.1
 
   held_in : (P : Tree) (A : List Action) (n : Node) → In n (held plan P A) → In n P.nodes
   held_in P A n i = (In-filter (is_held plan P A) n P.nodes i).0
 
-  leaving_by_act : (P : Tree) → Grown P → (k : ℕ) → AreLeaving plan (Act P k) (departed (held plan P (so_far plan P k)) (held plan P (so_far plan P (suc k))))
+  leaving_by_act : (P : Tree) → Grown P → (k : ℕ) → AreLeaving plan (ActEvent P k) (departed (held plan P (so_far plan P k)) (held plan P (so_far plan P (suc k))))
   leaving_by_act P w k =
       let A : List Action = so_far plan P k in
       let B : List Action = so_far plan P (suc k) in
@@ -135,8 +135,8 @@ module _ (plan : PlanTree) where
         );
       }
 
-  leaving_by_feed : (t : Token) (P : Tree) → Grown P → (k : ℕ) → so_far plan P k ≡ so_far plan (grow t P) k
-      → AreLeaving plan (Feed t P k) (departed (held plan P (so_far plan P k) ++ drop (length P.nodes) (grow t P).nodes) (held plan (grow t P) (so_far plan (grow t P) k)))
+  leaving_by_feed : (t : TreeToken) (P : Tree) → Grown P → (k : ℕ) → so_far plan P k ≡ so_far plan (grow t P) k
+      → AreLeaving plan (FeedEvent t P k) (departed (held plan P (so_far plan P k) ++ drop (length P.nodes) (grow t P).nodes) (held plan (grow t P) (so_far plan (grow t P) k)))
   leaving_by_feed t P w k e =
       let Q : Tree = grow t P in
       let v : Grown Q = Grown-grow t P w in
@@ -154,7 +154,7 @@ module _ (plan : PlanTree) where
       let rising : Rising there = Rising-append (held plan P A) new (rising_filter (is_held plan P A) P.nodes (rising_numbered 0 P.nodes w.numbered)) (rising_numbered (0 + length P.nodes) new of_new) (λ a b i j. above a b (held_in P A a i) j) in
       let d = departed_are_gone Q v there (held plan Q B) rising there_in (held_in Q B) in
       let not_old : (n : Node) → In n new → In n P.nodes → ⊥ = λ n i j. let f = above n n j i in absurd (omega arith) in
-      let result : AreLeaving plan (Feed t P k) (departed there (held plan Q B)) = record {
+      let result : AreLeaving plan (FeedEvent t P k) (departed there (held plan Q B)) = record {
         falling = d.0;
         each = λ s. (
           (λ i. let g = (d.1 s).0 i in (g.0, g.1, (elim (In-append g.0 (held plan P A) new g.2.0) [ inl j ↦ inl j | inr j ↦ inr (new_in g.0 j, not_old g.0 j) ], g.2.1))),
@@ -171,9 +171,9 @@ module _ (plan : PlanTree) where
           )),
         );
       } in
-      subst (λ (z : List Node). AreLeaving plan (Feed t P k) (departed (held plan P A ++ z) (held plan Q B))) (sym cut) result
+      subst (λ (z : List Node). AreLeaving plan (FeedEvent t P k) (departed (held plan P A ++ z) (held plan Q B))) (sym cut) result
 
-  told : (P : Tree) (k : ℕ) (ts : List Token) (es : List Event) → DemandRun plan P k ts es → may_all ts P ≡ true → Leads opening P
+  told : (P : Tree) (k : ℕ) (ts : List TreeToken) (es : List Event) → DemandRun plan P k ts es → may_all ts P ≡ true → Leads opening P
       → Tell plan es (act_lines plan P (so_far plan P k) (drop k (actions plan P)) ++ demand plan ts P)
   told P k ts es (acts {es = es'} l h) m o =
       let r = nth k (actions plan P) l in
@@ -204,9 +204,9 @@ module _ (plan : PlanTree) where
       let gone : List ℕ = departed (held plan P A ++ drop (length P.nodes) Q.nodes) (held plan Q A) in
       let D : List Line = demand plan us Q in
       let rest : List Line = act_lines plan Q A (drop k (actions plan Q)) ++ D in
-      let leaving : AreLeaving plan (Feed t P k) gone =
-      subst (λ (z : List Action). AreLeaving plan (Feed t P k) (departed (held plan P A ++ drop (length P.nodes) Q.nodes) (held plan Q z))) same
-      (subst (λ (z : List Action). AreLeaving plan (Feed t P k) (departed (held plan P z ++ drop (length P.nodes) Q.nodes) (held plan Q (so_far plan Q k)))) all (leaving_by_feed t P (grown_from P o) k (all ∙ sym same))) in
+      let leaving : AreLeaving plan (FeedEvent t P k) gone =
+      subst (λ (z : List Action). AreLeaving plan (FeedEvent t P k) (departed (held plan P A ++ drop (length P.nodes) Q.nodes) (held plan Q z))) same
+      (subst (λ (z : List Action). AreLeaving plan (FeedEvent t P k) (departed (held plan P z ++ drop (length P.nodes) Q.nodes) (held plan Q (so_far plan Q k)))) all (leaving_by_feed t P (grown_from P o) k (all ∙ sym same))) in
       let ih : Tell plan es' rest = subst (λ (z : List Action). Tell plan es' (act_lines plan Q z (drop k (actions plan Q)) ++ D)) same (told Q k us es' h a.1 (more o g)) in
       let acts_behind : List Line = act_lines plan Q A (drop k (actions plan Q)) in
       let cut : drop (length A) (actions plan Q) ≡ drop k (actions plan Q) = ap (λ (z : ℕ). drop z (actions plan Q)) (sym e) in (
@@ -251,13 +251,13 @@ middle_same (x ∷ xs) ys [] vs a b l e = absurd (omega arith)
 middle_same (x ∷ xs) ys (u ∷ us) vs a b l e = let f : xs ++ a ∷ ys ≡ us ++ b ∷ vs = cc in middle_same xs ys us vs a b (omega arith) f
 
 line_same : (plan : PlanTree) (e : Event) (l m : Line) → IsLine plan e l → IsLine plan e m → l ≡ m
-line_same plan (Feed t P k) l m (inl h) (inl g) =
+line_same plan (FeedEvent t P k) l m (inl h) (inl g) =
     let n : h.0 ≡ g.0 = last_same P.nodes h.0 g.0 (sym h.1 ∙ g.1) in
     h.2 ∙ (ap (λ (z : Node). Opened (serial_of z) (line_kind (kind_of z)) (roles_given plan (grow t P) z)) n ∙ sym g.2)
-line_same plan (Feed t P k) l m (inl h) (inr g) = absurd (not_longer P.nodes h.0 (sym h.1 ∙ g.0))
-line_same plan (Feed t P k) l m (inr h) (inl g) = absurd (not_longer P.nodes g.0 (sym g.1 ∙ h.0))
-line_same plan (Feed t P k) l m (inr h) (inr g) = h.1.2 ∙ (ap (λ (z : Node). Closed (serial_of z)) (same_Some _ _ (sym h.1.1 ∙ g.1.1)) ∙ sym g.1.2)
-line_same plan (Act P k) l m h g = h.5 ∙ (ap action_line (middle_same h.0 h.1 g.0 g.1 h.2 g.2 (h.4 ∙ sym g.4) (sym h.3 ∙ g.3)) ∙ sym g.5)
+line_same plan (FeedEvent t P k) l m (inl h) (inr g) = absurd (not_longer P.nodes h.0 (sym h.1 ∙ g.0))
+line_same plan (FeedEvent t P k) l m (inr h) (inl g) = absurd (not_longer P.nodes g.0 (sym g.1 ∙ h.0))
+line_same plan (FeedEvent t P k) l m (inr h) (inr g) = h.1.2 ∙ (ap (λ (z : Node). Closed (serial_of z)) (same_Some _ _ (sym h.1.1 ∙ g.1.1)) ∙ sym g.1.2)
+line_same plan (ActEvent P k) l m h g = h.5 ∙ (ap action_line (middle_same h.0 h.1 g.0 g.1 h.2 g.2 (h.4 ∙ sym g.4) (sym h.3 ∙ g.3)) ∙ sym g.5)
 
 pub one_telling : OneTelling
 one_telling plan [] ls ms h k = h ∙ sym k
@@ -271,17 +271,17 @@ one_telling plan (e ∷ es) ls ms h k =
 
 -- the peak
 
-abbrev held_on : PlanTree → Tree → (before : List Token) (t : Token) → List Node
+abbrev held_on : PlanTree → Tree → (before : List TreeToken) (t : TreeToken) → List Node
 held_on plan P before t = held plan (grow t (grow_all before P)) (actions plan (grow_all before P))
 
-not_passed : (plan : PlanTree) (before after : List Token) (t : Token) (P : Tree) → length (held_on plan P before t) ≤ peak_from plan (before ++ t ∷ after) P
+not_passed : (plan : PlanTree) (before after : List TreeToken) (t : TreeToken) (P : Tree) → length (held_on plan P before t) ≤ peak_from plan (before ++ t ∷ after) P
 not_passed plan [] after t P = omega arith
 not_passed plan (b ∷ before) after t P = let h = not_passed plan before after t (grow b P) in omega arith
 
-abbrev Attained : PlanTree → List Token → Tree → Type 0
-Attained plan ts P = (before after : List Token) × (t : Token) × (ts ≡ before ++ t ∷ after) × (length (held_on plan P before t) ≡ peak_from plan ts P)
+abbrev Attained : PlanTree → List TreeToken → Tree → Type 0
+Attained plan ts P = (before after : List TreeToken) × (t : TreeToken) × (ts ≡ before ++ t ∷ after) × (length (held_on plan P before t) ≡ peak_from plan ts P)
 
-attained : (plan : PlanTree) (ts : List Token) (P : Tree) → (peak_from plan ts P ≡ 0) ⊎ Attained plan ts P
+attained : (plan : PlanTree) (ts : List TreeToken) (P : Tree) → (peak_from plan ts P ≡ 0) ⊎ Attained plan ts P
 attained plan [] P = inl refl
 attained plan (t ∷ ts) P = go (attained plan ts (grow t P))
   where
@@ -299,12 +299,12 @@ attained plan (t ∷ ts) P = go (attained plan ts (grow t P))
     ]
 
 pub peak_is_greatest : PeakIsGreatest
-peak_is_greatest plan ts = (reached_peak (attained plan ts opening), omega arith, λ before after t e. subst (λ (z : List Token). length (held_at plan before t) ≤ peak_of plan z) (sym e) (let h = not_passed plan before after t opening in omega arith))
+peak_is_greatest plan ts = (reached_peak (attained plan ts opening), omega arith, λ before after t e. subst (λ (z : List TreeToken). length (held_at plan before t) ≤ peak_of plan z) (sym e) (let h = not_passed plan before after t opening in omega arith))
   where
     start : ℕ
     start = length (held plan opening [])
 
-    reached_peak : (peak_from plan ts opening ≡ 0) ⊎ Attained plan ts opening → (start ≡ peak_of plan ts) ⊎ ((before after : List Token) × (t : Token) × (ts ≡ before ++ t ∷ after) × (length (held_at plan before t) ≡ peak_of plan ts))
+    reached_peak : (peak_from plan ts opening ≡ 0) ⊎ Attained plan ts opening → (start ≡ peak_of plan ts) ⊎ ((before after : List TreeToken) × (t : TreeToken) × (ts ≡ before ++ t ∷ after) × (length (held_at plan before t) ≡ peak_of plan ts))
     reached_peak (inl e) = inl (omega arith)
     reached_peak (inr r) = elim (cases_lt start (peak_from plan ts opening)) [
       | inl l ↦ (let e = r.4 in inr (r.0, r.1, r.2, r.3, omega arith))

@@ -10,7 +10,7 @@ use Rattle.gcx_model.specs.Cores.{Good}
 use Rattle.gcx_model.specs.Placed.{Placed}
 use Rattle.gcx_model.specs.Held.{held}
 use Rattle.gcx_model.specs.Growth.{Leads}
-use Rattle.gcx_model.specs.Points.{actions, so_far, CoreState, Frame, Rest, Round, PointAt, Bound_in}
+use Rattle.gcx_model.specs.Points.{actions, so_far, CoreState, Frame, Rest, LoopRound, PointAt, Bound_in}
 
 -- The variable isn't 0, and no frame below binds it.
 abbrev pub IsFree : ℕ → List Frame → Type 0
@@ -24,7 +24,7 @@ LoopVariableFree = (core : BodyTree) → Good core → (plan : PlanTree) → Pla
 -- and of that of a round, below it.
 abbrev pub RoundVariableFree : Type 0
 RoundVariableFree = (core : BodyTree) → Good core → (plan : PlanTree) → Placed core plan → (P : Tree) (k : ℕ) → (top below : List Frame) (x y : ℕ) (s : Step) (e : BodyTree) (env : Env) (n : Node)
-    → PointAt plan P k (top ++ Round x y s e env n ∷ below) → IsFree x below
+    → PointAt plan P k (top ++ LoopRound x y s e env n ∷ below) → IsFree x below
 
 -- A plan's run isn't over without an action: its last one takes back the document node's own role. So the document node is held while an action is left or the run isn't done;
 -- before the first action; and at each point at which the whole body is left.

@@ -1,6 +1,6 @@
 -- How the sums of the roles that are given and of those that are taken back go on.
 use Rattle.std.specs.Prelude.{◌≡◌, ℕ, ◌+◌, ◌*◌, ◌≤◌, true, List, [], ◌∷◌, ◌++◌, length, filter}
-use Rattle.gcx_model.specs.Tree.{Node, serial_of, Tree, Token, opening, grow}
+use Rattle.gcx_model.specs.Tree.{Node, serial_of, Tree, TreeToken, opening, grow}
 use Rattle.gcx_model.specs.Members.{In}
 use Rattle.gcx_model.specs.Core.{BodyTree, OffTree, PlanTree}
 use Rattle.gcx_model.specs.Run.{Action, Wrote, Offed}
@@ -15,7 +15,7 @@ use Rattle.past_laws.specs.Pasts.{bases}
 
 -- A token that opens a node adds the roles that this one is given, and those of them that are taken back in advance; another token adds none.
 abbrev pub SumsByFeed : Type 0
-SumsByFeed = (past : Past) → IsPast past → (t : Token) → may_come t past.tree ≡ true
+SumsByFeed = (past : Past) → IsPast past → (t : TreeToken) → may_come t past.tree ≡ true
     → ((n : Node) → Opens past.tree t n
     → (sum_given past.plan (grow t past.tree) ≡ sum_given past.plan past.tree + length (roles_given past.plan (grow t past.tree) n))
     × (sum_taken past.plan (grow t past.tree) past.acts ≡ sum_taken past.plan past.tree past.acts + length (roles_taken past.plan (grow t past.tree) past.acts n)))

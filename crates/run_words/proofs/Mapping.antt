@@ -1,7 +1,7 @@
 -- The end of a run in other words for the same texts.
 use Rattle.std.proofs.Common.{ℕ, Bool, List, Some, None}
 use Rattle.gcx_base.specs.declared.limits.Limits.{Limits}
-use Rattle.run_words.specs.Ends.{RunEnd, Whole, Refused, ReadFailed, WriteFailed, NoMemory, SettlesBefore, Unread, LastPiece, AtEnd, WritesAll, Reached, StopsWriting, Lags, EndsRun}
+use Rattle.run_words.specs.Ends.{RunEnd, Completed, Refused, ReadFailed, WriteFailed, NoMemory, SettlesBefore, Unread, LastPiece, AtEnd, WritesAll, ReachedStop, StopsWriting, Lags, EndsRun}
 use Rattle.run_words.specs.Stops.{Stop}
 use Rattle.run_words.specs.Writing.{Sinks}
 
@@ -23,7 +23,7 @@ module _ (W T V U : List ℕ → Bool → List ℕ → Type 0) (output : (b : Li
     told = w.told;
   }
 
-  reached_map : (ps : List (List ℕ)) (stop : Stop) (wrote w told t : List ℕ) → Reached W T ps stop wrote w told t → Reached V U ps stop wrote w told t
+  reached_map : (ps : List (List ℕ)) (stop : Stop) (wrote w told t : List ℕ) → ReachedStop W T ps stop wrote w told t → ReachedStop V U ps stop wrote w told t
   reached_map ps stop wrote w told t r = record {
     settled = output _ _ w r.settled;
     before = before_map W V output ps stop wrote r.before;
@@ -54,7 +54,7 @@ module _ (W T V U : List ℕ → Bool → List ℕ → Type 0) (output : (b : Li
 
   pub ends_map : (lim : Limits) (tracing : Bool) (end : RunEnd) (ps : List (List ℕ)) (stop : Stop) (a b : Sinks) → EndsRun W T lim tracing end ps stop a b
       → EndsRun V U lim tracing end ps stop a b
-  ends_map lim tracing Whole ps stop a b (at_end, clean, w) = (at_end, clean, writes_map tracing _ _ a b w)
+  ends_map lim tracing Completed ps stop a b (at_end, clean, w) = (at_end, clean, writes_map tracing _ _ a b w)
   ends_map lim tracing (Refused f) ps stop a b (calm, fault, w) = (calm, fault, writes_map tracing _ _ a b w)
   ends_map lim tracing ReadFailed ps stop a b (cut, clean, w) = (cut, clean, writes_map tracing _ _ a b w)
   ends_map lim tracing WriteFailed ps stop a b (calm, s) = (calm, stops_map tracing ps stop a b s)

@@ -14,7 +14,7 @@ use Rattle.gcx_model.specs.Faults.{FaultIs, within_limit, before_limit, past_lim
 use Rattle.gcx_model.specs.declared.fault.DocFault.{DocFault}
 use Rattle.gcx_model.specs.declared.fault.DocFault.TheVariants.{TooLong}
 use Rattle.run_words.specs.Reading.{SourceGave, ReadsOn, IsShort, AreClean}
-use Rattle.run_words.specs.Stops.{Stop, More, End, Fault}
+use Rattle.run_words.specs.Stops.{Stop, More, EndAnswered, FaultAnswered}
 
 pub source_none : (a : SourceView) → SourceGave a a [] More
 source_none a = record {
@@ -44,7 +44,7 @@ source_more a b c ps n buf g once some within size = record {
     pushed (x ∷ xs) ps p = ap (λ (l : List Call). x ∷ l) (pushed xs ps p)
 
 pub source_end : {E : Type 0} (a b c : SourceView) (ps : List (List ℕ)) (n : ℕ) (buf : List ℕ) → SourceGave a b ps More
-    → ReadsSource {E = E} b c (Ok n) buf → n ≡ 0 → length buf ≡ 65536 → SourceGave a c ps End
+    → ReadsSource {E = E} b c (Ok n) buf → n ≡ 0 → length buf ≡ 65536 → SourceGave a c ps EndAnswered
 source_end {E = E} a b c ps n buf g more none size =
     let once : ReadsSource {E = E} b c (Ok 0) buf = subst (λ (k : ℕ). ReadsSource {E = E} b c (Ok k) buf) none more in
     record {
@@ -56,7 +56,7 @@ source_end {E = E} a b c ps n buf g more none size =
     }
 
 pub source_fault : {E : Type 0} (a b c : SourceView) (ps : List (List ℕ)) (e : E) (buf : List ℕ) → SourceGave a b ps More
-    → ReadsSource {E = E} b c (Err e) buf → SourceGave a c ps Fault
+    → ReadsSource {E = E} b c (Err e) buf → SourceGave a c ps FaultAnswered
 source_fault a b c ps e buf g once = record {
   some = g.some;
   calls = calls_on a.calls b.calls c.calls ps Failed g.calls once.calls;

@@ -6,13 +6,13 @@ use Rattle.gcx_io.specs.Causes.{Rose}
 use Rattle.gcx_io.specs.Views.{Gave, SourceView}
 use Rattle.gcx_io.specs.Writing.{IsSomeBytes, joined}
 use Rattle.gcx_model.specs.Faults.{FaultIs}
-use Rattle.run_words.specs.Stops.{Stop, More, End, Fault, last_call}
+use Rattle.run_words.specs.Stops.{Stop, More, EndAnswered, FaultAnswered, last_call}
 
 -- the count of faults rose where a read failed, and else it stayed
 abbrev pub CountsFault : Stop → ℕ → ℕ → Type 0
 CountsFault More before after = after ≡ before
-CountsFault End before after = after ≡ before
-CountsFault Fault before after = Rose before after
+CountsFault EndAnswered before after = after ≡ before
+CountsFault FaultAnswered before after = Rose before after
 
 -- The source gave these pieces, none empty, to reads that asked for 65,536 bytes each, and stopped so. No call came after the end
 -- or a fault.
@@ -20,7 +20,7 @@ pub record SourceGave (a b : SourceView) (pieces : List (List ℕ)) (stop : Stop
   pub some : All IsSomeBytes pieces
   pub calls : b.calls ≡ a.calls ++ map (Gave 65536) pieces ++ last_call 65536 stop
   pub told : Consumes a.left b.left (joined pieces)
-  pub at_end : stop ≡ End → IsAtEnd b.left
+  pub at_end : stop ≡ EndAnswered → IsAtEnd b.left
   pub faults : CountsFault stop a.faults b.faults
 
 -- a read asks for no more

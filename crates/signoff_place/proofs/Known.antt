@@ -2,7 +2,7 @@
 use Rattle.std.proofs.Common.{ℕ, zero, suc, ◌≡◌, ◌+◌, ◌<◌, ◌≤◌, Bool, true, false, cond, List, [], ◌∷◌, ◌++◌, map, length, get_or, refl, sym, ap, ◌∙◌, subst, arith}
 use Rattle.std.proofs.lemmas.List.{map-append, length-map}
 use Rattle.gcx_base.specs.declared.steps.Step.{Step}
-use Rattle.gcx_model.specs.Core.{ItemTree, Write, Copy, For, If, Off, BodyTree, Nil, Then, RoleRowTree}
+use Rattle.gcx_model.specs.Core.{ItemTree, Write, Copy, For, If, SignOff, BodyTree, Nil, Then, RoleRowTree}
 use Rattle.gcx_model.specs.declared.plan.VarRow.{VarRow}
 use Rattle.gcx_model.specs.Cores.{Good}
 use Rattle.gcx_model.specs.PlanView.{var_row_tree}
@@ -58,7 +58,7 @@ mutual
   item_numbers (Copy x) u = refl
   item_numbers (For x y s d) u = ap (λ (xs : List ℕ). x ∷ xs) (numbers d x)
   item_numbers (If c a b) u = map-append number_of (loops a u) (loops b u) ∙ (λ i. numbers a u i ++ numbers b u i)
-  item_numbers (Off o) u = refl
+  item_numbers (SignOff o) u = refl
 
   numbers : (d : BodyTree) (u : ℕ) → map number_of (loops d u) ≡ vars d
   numbers Nil u = refl

@@ -9,11 +9,11 @@ use Rattle.gcx_model.specs.ItemView.{body_of, item_tree, off_tree}
 use Rattle.gcx_model.specs.Placed.{offs_body, add_offs, place_item, place}
 
 abbrev pub off_item : OffTree → ItemTree
-off_item o = tree.Off o
+off_item o = tree.SignOff o
 
 offs_items : (os : List OffTree) → body_of (map off_item os) ≡ offs_body os
 offs_items [] = refl
-offs_items (o ∷ os) = ap (Then (tree.Off o)) (offs_items os)
+offs_items (o ∷ os) = ap (Then (tree.SignOff o)) (offs_items os)
 
 pub added_items : (is : List ItemTree) (os : List OffTree) → body_of (is ++ map off_item os) ≡ add_offs (body_of is) os
 added_items [] os = offs_items os

@@ -2,7 +2,7 @@
 use Rattle.std.specs.Prelude.{ℕ, zero, suc, Bool, true, false, List, [], ◌∷◌, ◌++◌, codes}
 use Rattle.std.specs.Fmt.{decimal}
 use Rattle.gcx_base.specs.declared.steps.Step.{Step}
-use Rattle.gcx_model.specs.Core.{RoleKind, Own, First, Whole, OffTree, ItemTree, Write, Copy, For, If, Off, BodyTree, Nil, Then, VarRowTree, RoleRowTree, PlanTree}
+use Rattle.gcx_model.specs.Core.{RoleTarget, Own, First, Whole, OffTree, ItemTree, Write, Copy, For, If, SignOff, BodyTree, Nil, Then, VarRowTree, RoleRowTree, PlanTree}
 use Rattle.xq_normal.specs.ConditionText.{cond_text, step_text, steps_text}
 use Rattle.xq_print.specs.Printed.{joined}
 
@@ -30,13 +30,13 @@ var_lines x (r ∷ rs) [] fsa = []
 var_lines x (r ∷ rs) (c ∷ cs) [] = []
 var_lines x (r ∷ rs) (c ∷ cs) (b ∷ bs) = var_line x r c b ++ var_lines (suc x) rs cs bs
 
-abbrev pub kind_text : RoleKind → List ℕ
+abbrev pub kind_text : RoleTarget → List ℕ
 kind_text Own = codes "own"
 kind_text First = codes "first"
 kind_text Whole = codes "whole"
 
 -- what stands behind a role's number: a variable's own role has no steps
-abbrev pub role_text : RoleKind → (x : ℕ) → (tail : List Step) → List ℕ
+abbrev pub role_text : RoleTarget → (x : ℕ) → (tail : List Step) → List ℕ
 role_text Own x tail = words (kind_text Own ∷ decimal x ∷ [])
 role_text First x tail = words (kind_text First ∷ decimal x ∷ steps_text tail ∷ [])
 role_text Whole x tail = words (kind_text Whole ∷ decimal x ∷ steps_text tail ∷ [])
@@ -72,7 +72,7 @@ abbrev mutual
   item_text (For x y s d) depth = item_line depth (loop_text x y s) ++ body_text d (suc depth)
   item_text (If c this other) depth =
       item_line depth (codes "if " ++ cond_text c) ++ (body_text this (suc depth) ++ (item_line depth (codes "else") ++ body_text other (suc depth)))
-  item_text (Off o) depth = item_line depth (off_text o)
+  item_text (SignOff o) depth = item_line depth (off_text o)
 
   pub body_text : BodyTree → (depth : ℕ) → List ℕ
   body_text Nil depth = []

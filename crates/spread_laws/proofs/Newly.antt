@@ -3,11 +3,11 @@ use Rattle.std.proofs.Common.{◌≡◌, ℕ, ◌<◌, Bool, true, false, cond, 
 use Rattle.std.proofs.Math.Bool.{and-true}
 use Rattle.std.proofs.lemmas.Bool.{and_parts, and_from, eqb-true, eq-eqb, false_from_ne_true}
 use Rattle.gcx_base.specs.declared.steps.Step.{Step}
-use Rattle.gcx_model.specs.Tree.{Node, Root, Under, serial_of, above, Tree, Token, grow}
+use Rattle.gcx_model.specs.Tree.{Node, Root, Under, serial_of, above, Tree, TreeToken, grow}
 use Rattle.gcx_model.specs.Paths.{reach, hits, head}
 use Rattle.gcx_model.specs.Members.{In, count}
 use Rattle.gcx_model.specs.Nodes.{Grown}
-use Rattle.gcx_model.specs.Core.{RoleKind, Own, First, Whole, OffTree, RoleRowTree}
+use Rattle.gcx_model.specs.Core.{RoleTarget, Own, First, Whole, OffTree, RoleRowTree}
 use Rattle.gcx_model.specs.Placed.{offs_in, of_role, row_at}
 use Rattle.gcx_model.specs.Held.{path_of, statement_of, given_row, on_row, given, signed, taken, roles_taken, live}
 use Rattle.gcx_model.specs.Past.{Past, past_fed, IsPast, Opens, open_nodes}
@@ -41,7 +41,7 @@ module _ (P : Tree) (w : Grown P) where
       let up : In r.0 (above y.0) = hits_above P w r.0 p y.0 (above_in P w m r.0 k r.1) (above_in P w m y.0 k y.1) y.2 in
       (y.0, y.1, any_from (λ (j : Node). reach (serial_of a) s j && hits (serial_of j) p y.0) r.0 (above y.0) up (and_from _ _ b.0 y.2), y.3)
 
-module _ (past : Past) (is : IsPast past) (t : Token) (n : Node) (new : Opens past.tree t n) where
+module _ (past : Past) (is : IsPast past) (t : TreeToken) (n : Node) (new : Opens past.tree t n) where
   abbrev Q : Tree
   Q = grow t past.tree
 
@@ -86,9 +86,9 @@ module _ (past : Past) (is : IsPast past) (t : Token) (n : Node) (new : Opens pa
         let at : row_at past.plan.roles r ≡ Some told.row = subst (λ (z : ℕ). row_at past.plan.roles z ≡ Some told.row) e told.at in
         ap (kept_by (past_fed t past) n r) st
         ∙ (go told.row at s.kind refl (ap (λ (z : List Step). z ++ told.row.tail) told.path ∙ (ap (λ (z : List Step). (path_of past.plan s.base ++ s.rel) ++ z) told.tail ∙ append_assoc (path_of past.plan s.base) s.rel s.tail))
-        ∙ (ap (λ (k : RoleKind). cond (is_whole_kind k) (hits 0 (path_of past.plan told.row.var ++ told.row.tail) n) (given_row (path_of past.plan) Q n told.row)) (sym told.kind) ∙ sym (ap (on_row (gives_newly (path_of past.plan) Q n)) at)))
+        ∙ (ap (λ (k : RoleTarget). cond (is_whole_kind k) (hits 0 (path_of past.plan told.row.var ++ told.row.tail) n) (given_row (path_of past.plan) Q n told.row)) (sym told.kind) ∙ sym (ap (on_row (gives_newly (path_of past.plan) Q n)) at)))
       where
-        go : (row : RoleRowTree) → row_at past.plan.roles r ≡ Some row → (k : RoleKind) → s.kind ≡ k → path_of past.plan row.var ++ row.tail ≡ path_of past.plan s.base ++ (s.rel ++ s.tail)
+        go : (row : RoleRowTree) → row_at past.plan.roles r ≡ Some row → (k : RoleTarget) → s.kind ≡ k → path_of past.plan row.var ++ row.tail ≡ path_of past.plan s.base ++ (s.rel ++ s.tail)
             → cond (is_whole_kind k) (is_top (past_fed t past) s n) (live past.plan (grow t past.tree) past.acts n r)
             ≡ cond (is_whole_kind k) (hits 0 (path_of past.plan row.var ++ row.tail) n) (given_row (path_of past.plan) (grow t past.tree) n row)
         go row at Own f p = plain row at

@@ -8,11 +8,11 @@ use Rattle.gcx_base.specs.declared.steps.Axis.{Axis}
 use Rattle.gcx_base.specs.declared.steps.Axis.TheVariants.{Child, Descendant}
 use Rattle.gcx_base.specs.declared.steps.Step.{Step}
 use Rattle.gcx_base.specs.Tests.{passes}
-use Rattle.gcx_model.specs.Tree.{Node, Root, Under, serial_of, kind_of, above, Tree, Token, grow}
+use Rattle.gcx_model.specs.Tree.{Node, Root, Under, serial_of, kind_of, above, Tree, TreeToken, grow}
 use Rattle.gcx_model.specs.Paths.{any, lies, reach, hits, matches}
 use Rattle.gcx_model.specs.Members.{In, count}
 use Rattle.gcx_model.specs.Nodes.{Grown}
-use Rattle.gcx_model.specs.Core.{RoleKind, Own, OffTree}
+use Rattle.gcx_model.specs.Core.{RoleTarget, Own, OffTree}
 use Rattle.gcx_model.specs.Placed.{offs_in}
 use Rattle.gcx_model.specs.Held.{path_of, statement_of, gives, given, signed, on_off, live, roles_live}
 use Rattle.gcx_model.specs.Past.{Past, past_fed, IsPast, Opens, open_from, open_nodes, is_signed, roles_signed}
@@ -33,7 +33,7 @@ use Rattle.spread_laws.proofs.Tops.{leads, led, is_led, kept_by}
 
 -- the nodes that were there
 
-module _ (past : Past) (is : IsPast past) (t : Token) (n : Node) (i : In n past.tree.nodes) where
+module _ (past : Past) (is : IsPast past) (t : TreeToken) (n : Node) (i : In n past.tree.nodes) where
   abbrev P : Tree
   P = past.tree
 
@@ -97,7 +97,7 @@ module _ (past : Past) (is : IsPast past) (s : OffTree) (i : In s (offs_in past.
       let t = tells past is s i in
       ap (given past.plan Q n) (sym t.own_role)
       ∙ (given_told past.plan t.own (tells past is t.own t.own_in) Q n
-      ∙ (ap (λ (z : RoleKind). gives Q 0 (path_of past.plan t.own.base ++ t.own.rel) t.own.tail z n) t.own_kind
+      ∙ (ap (λ (z : RoleTarget). gives Q 0 (path_of past.plan t.own.base ++ t.own.rel) t.own.tail z n) t.own_kind
       ∙ (ap (λ (z : List Step). hits 0 (path_of past.plan t.own.base ++ z) n) t.own_rel
       ∙ (ap (λ (z : List Step). hits 0 z n) (append-nil (path_of past.plan t.own.base)) ∙ ap (λ (z : ℕ). hits 0 (path_of past.plan z) n) t.own_base))))
 
@@ -122,7 +122,7 @@ module _ (past : Past) (is : IsPast past) (s : OffTree) (i : In s (offs_in past.
   pub row_unsigned : (b : Node) → (In s.role (roles_signed past.plan past.acts b) → ⊥) → signed past.acts s b ≡ false
   row_unsigned b h = false_from_ne_true (signed past.acts s b) (λ e. h ((row_tells past is b s.role).1.1 (signed_is b ∙ e)))
 
-  module _ (t : Token) (n : Node) (new : Opens past.tree t n) where
+  module _ (t : TreeToken) (n : Node) (new : Opens past.tree t n) where
     abbrev Q : Tree
     Q = grow t past.tree
 

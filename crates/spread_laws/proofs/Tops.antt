@@ -6,7 +6,7 @@ use Rattle.gcx_base.specs.declared.kind.Kind.{Kind}
 use Rattle.gcx_model.specs.Tree.{Node, Root, Under, serial_of, above}
 use Rattle.gcx_model.specs.Paths.{hits}
 use Rattle.gcx_model.specs.Members.{In, count}
-use Rattle.gcx_model.specs.Core.{RoleKind, Own, First, Whole, OffTree}
+use Rattle.gcx_model.specs.Core.{RoleTarget, Own, First, Whole, OffTree}
 use Rattle.gcx_model.specs.Placed.{offs_in}
 use Rattle.gcx_model.specs.Held.{statement_of, gives, signed, on_off, live}
 use Rattle.gcx_model.specs.Past.{Past, IsPast}
@@ -44,7 +44,7 @@ live_by_tops past is s i whole n j = (there, back)
     there : live past.plan past.tree past.acts n s.role ≡ true → (a : Node) × In a (above n) × (is_top past s a ≡ true)
     there h =
         let r = live_reached past is s i n h in
-        let g : gives past.tree (serial_of r.0) s.rel s.tail Whole n ≡ true = subst (λ (k : RoleKind). gives past.tree (serial_of r.0) s.rel s.tail k n ≡ true) whole r.3 in
+        let g : gives past.tree (serial_of r.0) s.rel s.tail Whole n ≡ true = subst (λ (k : RoleTarget). gives past.tree (serial_of r.0) s.rel s.tail k n ≡ true) whole r.3 in
         let a = any_in (hits (serial_of r.0) (s.rel ++ s.tail)) (above n) g in
         (a.0, a.1, is_led past s a.0 (r.0, r.1, r.2, a.2))
 
@@ -52,7 +52,7 @@ live_by_tops past is s i whole n j = (there, back)
     back h =
         let b = led past s h.0 h.2 in
         let g : gives past.tree (serial_of b.0) s.rel s.tail Whole n ≡ true = any_from (hits (serial_of b.0) (s.rel ++ s.tail)) h.0 (above n) h.1 b.3 in
-        reached_live past is s i b.0 n j b.1 b.2 (subst (λ (k : RoleKind). gives past.tree (serial_of b.0) s.rel s.tail k n ≡ true) (sym whole) g)
+        reached_live past is s i b.0 n j b.1 b.2 (subst (λ (k : RoleTarget). gives past.tree (serial_of b.0) s.rel s.tail k n ≡ true) (sym whole) g)
 
 -- what is kept of a role that has this statement
 abbrev pub kept_by : Past → Node → ℕ → Option OffTree → Bool
@@ -113,7 +113,7 @@ live_by_kept past is r = (at_root (statement_of past.plan r) refl, λ p q k j. u
     at_root None e = refl
     at_root (Some s) e = go s.kind refl
       where
-        go : (k : RoleKind) → s.kind ≡ k → live past.plan past.tree past.acts Root r ≡ cond (is_whole_kind k) (is_top past s Root) (live past.plan past.tree past.acts Root r)
+        go : (k : RoleTarget) → s.kind ≡ k → live past.plan past.tree past.acts Root r ≡ cond (is_whole_kind k) (is_top past s Root) (live past.plan past.tree past.acts Root r)
         go Own f = refl
         go First f = refl
         go Whole f = whole_root past is r s e f
@@ -123,7 +123,7 @@ live_by_kept past is r = (at_root (statement_of past.plan r) refl, λ p q k j. u
     under p q kd j None e = sym (or-false (live past.plan past.tree past.acts (Under p q kd) r))
     under p q kd j (Some s) e = go s.kind refl
       where
-        go : (k : RoleKind) → s.kind ≡ k
+        go : (k : RoleTarget) → s.kind ≡ k
             → live past.plan past.tree past.acts (Under p q kd) r ≡ (cond (is_whole_kind k) (is_top past s (Under p q kd)) (live past.plan past.tree past.acts (Under p q kd) r) || (is_whole_kind k && live past.plan past.tree past.acts p r))
         go Own f = sym (or-false (live past.plan past.tree past.acts (Under p q kd) r))
         go First f = sym (or-false (live past.plan past.tree past.acts (Under p q kd) r))
@@ -142,7 +142,7 @@ module _ (past : Past) (is : IsPast past) (n : Node) (j : In n past.tree.nodes) 
       at None e k = k
       at (Some s) e k = go s.kind refl k
         where
-          go : (c : RoleKind) → s.kind ≡ c → cond (is_whole_kind c) (is_top past s n) (live past.plan past.tree past.acts n r) ≡ true → live past.plan past.tree past.acts n r ≡ true
+          go : (c : RoleTarget) → s.kind ≡ c → cond (is_whole_kind c) (is_top past s n) (live past.plan past.tree past.acts n r) ≡ true → live past.plan past.tree past.acts n r ≡ true
           go Own f t = t
           go First f t = t
           go Whole f t = top_live past is r s e f n j n (above_self n) t

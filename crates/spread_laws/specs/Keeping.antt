@@ -1,7 +1,7 @@
 -- Laws of tops: they tell where spread roles are live, and which there are behind a token and behind an action.
 use Rattle.std.specs.Prelude.{◌≡◌, ℕ, true, false, not, cond, ◌&&◌, ◌||◌, List, [], ◌∷◌, ◌++◌, filter, ◌==◌, ◌↔◌, ◌⊎◌, None, length, replicate, slice_index_or}
 use Rattle.gcx_base.specs.declared.kind.Kind.{Kind}
-use Rattle.gcx_model.specs.Tree.{Node, Root, Under, serial_of, above, Token, grow}
+use Rattle.gcx_model.specs.Tree.{Node, Root, Under, serial_of, above, TreeToken, grow}
 use Rattle.gcx_model.specs.Paths.{hits}
 use Rattle.gcx_model.specs.Members.{In}
 use Rattle.gcx_model.specs.Core.{Whole, BodyTree, OffTree, PlanTree}
@@ -41,12 +41,12 @@ KeptAreLive = (past : Past) → IsPast past → (n : Node) → In n past.tree.no
 
 -- A token leaves the tops among the nodes that were there, and the roles kept at them.
 abbrev pub KeptByFeed : Type 0
-KeptByFeed = (past : Past) → IsPast past → (t : Token) (n : Node) → In n past.tree.nodes
+KeptByFeed = (past : Past) → IsPast past → (t : TreeToken) (n : Node) → In n past.tree.nodes
     → ((s : OffTree) → is_top (past_fed t past) s n ≡ is_top past s n) × (roles_kept (past_fed t past) n ≡ roles_kept past n)
 
 -- The node that a token opens is a top exactly where the statement has neither steps nor a tail and the node is a base, which is given the base's own role; or where the steps and the tail lead to it from an open node of which the row tells that it is a base that isn't signed.
 abbrev pub NewTops : Type 0
-NewTops = (past : Past) → IsPast past → (t : Token) (n : Node) → Opens past.tree t n → (s : OffTree) → In s (offs_in past.plan.body)
+NewTops = (past : Past) → IsPast past → (t : TreeToken) (n : Node) → Opens past.tree t n → (s : OffTree) → In s (offs_in past.plan.body)
     → (is_top (past_fed t past) s n ≡ true)
     ↔ (((s.rel ++ s.tail ≡ []) × (given past.plan (grow t past.tree) n s.own ≡ true))
     ⊎ ((b : Node) × In b (open_nodes past.tree)
@@ -55,7 +55,7 @@ NewTops = (past : Past) → IsPast past → (t : Token) (n : Node) → Opens pas
 
 -- Where no statement of a spread role is signed at an open node, and none of the new node's roles is taken in advance, those are kept at it that it isn't given from above.
 abbrev pub KeptNewly : Type 0
-KeptNewly = (past : Past) → IsPast past → (t : Token) (n : Node) → Opens past.tree t n
+KeptNewly = (past : Past) → IsPast past → (t : TreeToken) (n : Node) → Opens past.tree t n
     → ((s : OffTree) (b : Node) → In s (offs_in past.plan.body) → s.kind ≡ Whole → In b (open_nodes past.tree) → signed past.acts s b ≡ false)
     → roles_taken past.plan (grow t past.tree) past.acts n ≡ [] → roles_kept (past_grown t past) n ≡ roles_newly_given past.plan (grow t past.tree) n
 

@@ -5,14 +5,14 @@ use Rattle.gcx_model.specs.Tree.{Node, serial_of, Tree}
 use Rattle.gcx_model.specs.Paths.{any, hits}
 use Rattle.gcx_model.specs.Members.{count}
 use Rattle.gcx_model.specs.Variables.{all_child}
-use Rattle.gcx_model.specs.Core.{RoleKind, Own, First, Whole, OffTree, RoleRowTree, PlanTree}
+use Rattle.gcx_model.specs.Core.{RoleTarget, Own, First, Whole, OffTree, RoleRowTree, PlanTree}
 use Rattle.gcx_model.specs.Placed.{row_at}
 use Rattle.gcx_model.specs.Held.{paths_from, path_of, statement_of, given_row, on_row, signed, on_off, live, held}
 use Rattle.gcx_model.specs.Past.{Past}
 use Rattle.past_laws.specs.Pasts.{bases}
 
 -- the kind of the roles that are given to whole subtrees
-abbrev pub is_whole_kind : RoleKind → Bool
+abbrev pub is_whole_kind : RoleTarget → Bool
 is_whole_kind Own = false
 is_whole_kind First = false
 is_whole_kind Whole = true

@@ -5,7 +5,7 @@ use Rattle.std.specs.List.{filter}
 use Rattle.std.proofs.lemmas.Bool.{le-leb, lt-leb, lt-ltb, le-ltb, ltb-true, cases_lt, cases_Bool, false≢true, and_parts, and_from}
 use Rattle.std.proofs.lemmas.List.{append-nil, length-append}
 use Rattle.std.proofs.lemmas.List.Elements.{filter-append}
-use Rattle.gcx_model.specs.Tree.{Node, serial_of, within, Tree, Token, opening, grow, grow_all, is_open_at, is_closed}
+use Rattle.gcx_model.specs.Tree.{Node, serial_of, within, Tree, TreeToken, opening, grow, grow_all, is_open_at, is_closed}
 use Rattle.gcx_model.specs.Paths.{value}
 use Rattle.tree_laws.proofs.Lists.{In, In-append, filter_none}
 use Rattle.tree_laws.proofs.Matches.{Grown, Grown-grow, Grown-all, Grown-opening, Numbered, Numbered-high, Numbered-low, added, grow_nodes}
@@ -15,7 +15,7 @@ use Rattle.time_laws.specs.Laws.{ClockOfTokens}
 
 -- ---- nodes behind tokens
 
-pub more_nodes : (us : List Token) (P : Tree) → (more : List Node) × ((grow_all us P).nodes ≡ P.nodes ++ more)
+pub more_nodes : (us : List TreeToken) (P : Tree) → (more : List Node) × ((grow_all us P).nodes ≡ P.nodes ++ more)
 more_nodes [] P = ([], sym (append-nil P.nodes))
 more_nodes (t ∷ us) P = let r = more_nodes us (grow t P) in (added t P ++ r.0, r.1 ∙ (ap (λ z. z ++ r.0) (grow_nodes t P) ∙ append_same P.nodes (added t P) r.0))
   where
@@ -23,17 +23,17 @@ more_nodes (t ∷ us) P = let r = more_nodes us (grow t P) in (added t P ++ r.0,
     append_same [] ys zs = refl
     append_same (x ∷ xs) ys zs = ap (λ z. x ∷ z) (append_same xs ys zs)
 
-pub no_fewer : (us : List Token) (P : Tree) → length P.nodes ≤ length (grow_all us P).nodes
+pub no_fewer : (us : List TreeToken) (P : Tree) → length P.nodes ≤ length (grow_all us P).nodes
 no_fewer us P = let r = more_nodes us P in let e = ap length r.1 ∙ length-append P.nodes r.0 in omega arith
 
-pub split_at : (j : ℕ) (ts : List Token) (P : Tree) → grow_all ts P ≡ grow_all (drop j ts) (grow_all (take j ts) P)
+pub split_at : (j : ℕ) (ts : List TreeToken) (P : Tree) → grow_all ts P ≡ grow_all (drop j ts) (grow_all (take j ts) P)
 split_at zero ts P = refl
 split_at (suc j) [] P = refl
 split_at (suc j) (t ∷ ts) P = split_at j ts (grow t P)
 
 -- ---- openings
 
-opened_low : (ts : List Token) (P : Tree) (now n : ℕ) → now ≤ opened_from ts P now n
+opened_low : (ts : List TreeToken) (P : Tree) (now n : ℕ) → now ≤ opened_from ts P now n
 opened_low [] P now n = omega arith
 opened_low (t ∷ ts) P now n = go (ltb n (length P.nodes)) (opened_low ts (grow t P) (suc now) n)
   where
@@ -41,7 +41,7 @@ opened_low (t ∷ ts) P now n = go (ltb n (length P.nodes)) (opened_low ts (grow
     go true h = omega arith
     go false h = omega arith
 
-opened_cut : (ts : List Token) (P : Tree) (now j n : ℕ) → j ≤ length ts → n < length (grow_all ts P).nodes → leb (opened_from ts P now n) (now + j) ≡ ltb n (length (grow_all (take j ts) P).nodes)
+opened_cut : (ts : List TreeToken) (P : Tree) (now j n : ℕ) → j ≤ length ts → n < length (grow_all ts P).nodes → leb (opened_from ts P now n) (now + j) ≡ ltb n (length (grow_all (take j ts) P).nodes)
 opened_cut [] P now zero n l m = le-leb now (now + 0) (omega arith) ∙ sym (lt-ltb n (length P.nodes) m)
 opened_cut [] P now (suc j) n l m = absurd (omega arith)
 opened_cut (t ∷ ts) P now zero n l m = elim (cases_lt n (length P.nodes)) [
@@ -55,7 +55,7 @@ opened_cut (t ∷ ts) P now (suc j) n l m = elim (cases_lt n (length P.nodes)) [
       ap (λ (z : ℕ). leb (opened_from ts (grow t P) (suc now) n) z) e ∙ opened_cut ts (grow t P) (suc now) j n (omega arith) m)
 ]
 
-opened_rises : (ts : List Token) (P : Tree) (now a b : ℕ) → a ≤ b → opened_from ts P now a ≤ opened_from ts P now b
+opened_rises : (ts : List TreeToken) (P : Tree) (now a b : ℕ) → a ≤ b → opened_from ts P now a ≤ opened_from ts P now b
 opened_rises [] P now a b l = omega arith
 opened_rises (t ∷ ts) P now a b l = elim (cases_lt a (length P.nodes)) [
   | inl m ↦ rw (lt-ltb a (length P.nodes) m) (opened_low (t ∷ ts) P now b)
@@ -64,7 +64,7 @@ opened_rises (t ∷ ts) P now a b l = elim (cases_lt a (length P.nodes)) [
 
 -- ---- closings
 
-closed_low : (ts : List Token) (P : Tree) (now n : ℕ) → now ≤ closed_from ts P now n
+closed_low : (ts : List TreeToken) (P : Tree) (now n : ℕ) → now ≤ closed_from ts P now n
 closed_low [] P now n = omega arith
 closed_low (t ∷ ts) P now n = go (ltb n (length P.nodes) && not (is_open_at P.at n)) (closed_low ts (grow t P) (suc now) n)
   where
@@ -72,7 +72,7 @@ closed_low (t ∷ ts) P now n = go (ltb n (length P.nodes) && not (is_open_at P.
     go true h = omega arith
     go false h = omega arith
 
-opened_first : (ts : List Token) (P : Tree) (now n : ℕ) → opened_from ts P now n ≤ closed_from ts P now n
+opened_first : (ts : List TreeToken) (P : Tree) (now n : ℕ) → opened_from ts P now n ≤ closed_from ts P now n
 opened_first [] P now n = omega arith
 opened_first (t ∷ ts) P now n = elim (cases_lt n (length P.nodes)) [
   | inl m ↦ rw (lt-ltb n (length P.nodes) m) (go (not (is_open_at P.at n)) (closed_low ts (grow t P) (suc now) n))
@@ -83,11 +83,11 @@ opened_first (t ∷ ts) P now n = elim (cases_lt n (length P.nodes)) [
     go true h = omega arith
     go false h = omega arith
 
-closed_on : (us : List Token) (P : Tree) (n : Node) → serial_of n < length P.nodes → is_closed P n ≡ true → is_closed (grow_all us P) n ≡ true
+closed_on : (us : List TreeToken) (P : Tree) (n : Node) → serial_of n < length P.nodes → is_closed P n ≡ true → is_closed (grow_all us P) n ≡ true
 closed_on [] P n l c = c
 closed_on (t ∷ us) P n l c = closed_on us (grow t P) n (let h = no_fewer (t ∷ []) P in omega arith) (stays_closed t P n l c)
 
-closed_cut : (ts : List Token) (P : Tree) (now j : ℕ) (n : Node) → (grow_all ts P).at ≡ None → j ≤ length ts → serial_of n < length (grow_all (take j ts) P).nodes
+closed_cut : (ts : List TreeToken) (P : Tree) (now j : ℕ) (n : Node) → (grow_all ts P).at ≡ None → j ≤ length ts → serial_of n < length (grow_all (take j ts) P).nodes
     → leb (closed_from ts P now (serial_of n)) (now + j) ≡ is_closed (grow_all (take j ts) P) n
 closed_cut [] P now zero n e l m = le-leb now (now + 0) (omega arith) ∙ sym (ap (λ z. not (is_open_at z (serial_of n))) e)
 closed_cut [] P now (suc j) n e l m = absurd (omega arith)
@@ -108,7 +108,7 @@ closed_cut (t ∷ ts) P now (suc j) n e l m = go (closed_cut ts (grow t P) (suc 
         ap (λ (z : ℕ). leb (closed_from ts (grow t P) (suc now) (serial_of n)) z) f ∙ ih
 
 -- what comes later isn't in a closed node
-outside : (us : List Token) (P : Tree) (n m : Node) → serial_of n < length P.nodes → is_closed P n ≡ true → In m (grow_all us P).nodes → (In m P.nodes → ⊥) → within (serial_of n) m ≡ false
+outside : (us : List TreeToken) (P : Tree) (n m : Node) → serial_of n < length P.nodes → is_closed P n ≡ true → In m (grow_all us P).nodes → (In m P.nodes → ⊥) → within (serial_of n) m ≡ false
 outside [] P n m l c i o = absurd (o i)
 outside (t ∷ us) P n m l c i o = outside_step (outside us (grow t P) n m (let h = no_fewer (t ∷ []) P in omega arith) (stays_closed t P n l c) i) (cases_Bool (within (serial_of n) m))
   where
@@ -124,12 +124,12 @@ low_in k [] ys h m i l = let r = Numbered-low k ys h m i in absurd (omega arith)
 low_in k (x ∷ xs) ys h m (inl e) l = inl e
 low_in k (x ∷ xs) ys h m (inr i) l = inr (low_in (suc k) xs ys h.1 m i (omega arith))
 
-there_before : (us : List Token) (P : Tree) → Grown (grow_all us P) → (m : Node) → In m (grow_all us P).nodes → serial_of m < length P.nodes → In m P.nodes
+there_before : (us : List TreeToken) (P : Tree) → Grown (grow_all us P) → (m : Node) → In m (grow_all us P).nodes → serial_of m < length P.nodes → In m P.nodes
 there_before us P w m i l =
     let r = more_nodes us P in
     low_in 0 P.nodes r.0 (subst (λ (z : List Node). Numbered 0 z) r.1 w.numbered) m (subst (λ (z : List Node). In m z) r.1 i) (omega arith)
 
-closed_inside : (ts : List Token) (P : Tree) (now : ℕ) → Grown P → (n m : Node) → In m (grow_all ts P).nodes → within (serial_of n) m ≡ true → closed_from ts P now (serial_of m) ≤ closed_from ts P now (serial_of n)
+closed_inside : (ts : List TreeToken) (P : Tree) (now : ℕ) → Grown P → (n m : Node) → In m (grow_all ts P).nodes → within (serial_of n) m ≡ true → closed_from ts P now (serial_of m) ≤ closed_from ts P now (serial_of n)
 closed_inside [] P now w n m i h = omega arith
 closed_inside (t ∷ ts) P now w n m i h = go (closed_inside ts (grow t P) (suc now) (Grown-grow t P w) n m i h) (ltb (serial_of n) (length P.nodes) && is_closed P n) refl
   where
@@ -162,7 +162,7 @@ closed_inside (t ∷ ts) P now w n m i h = go (closed_inside ts (grow t P) (suc 
 
 -- ---- values
 
-value_on : (us : List Token) (P : Tree) (n : Node) → serial_of n < length P.nodes → is_closed P n ≡ true → value (grow_all us P) n ≡ value P n
+value_on : (us : List TreeToken) (P : Tree) (n : Node) → serial_of n < length P.nodes → is_closed P n ≡ true → value (grow_all us P) n ≡ value P n
 value_on [] P n l c = refl
 value_on (t ∷ us) P n l c = value_on us (grow t P) n (let h = no_fewer (t ∷ []) P in omega arith) (stays_closed t P n l c) ∙ value_closed t P n l c
 
@@ -185,7 +185,7 @@ In_right : (m : Node) (xs ys : List Node) → In m ys → In m (xs ++ ys)
 In_right m [] ys i = i
 In_right m (x ∷ xs) ys i = inr (In_right m xs ys i)
 
-module _ (ts : List Token) (shut : (grow_all ts opening).at ≡ None) where
+module _ (ts : List TreeToken) (shut : (grow_all ts opening).at ≡ None) where
   C : Tree
   C = grow_all ts opening
 

@@ -7,11 +7,11 @@ use Rattle.std.proofs.lemmas.List.Elements.{filter-append}
 use Rattle.gcx_model.specs.Tree.{Node, serial_of}
 use Rattle.gcx_model.specs.Run.{Action, Out, idle, seq, seq_if, loop}
 use Rattle.tree_laws.proofs.Lists.{In, filter_none}
-use Rattle.time_laws.specs.Times.{Clock, is_there, TimedAct, Course, act_of, one_act, none_till, then_on, rounds, is_due, due}
+use Rattle.time_laws.specs.Times.{Clock, is_there, TimedAction, TimedCourse, act_of, one_act, none_till, then_on, rounds, is_due, due}
 use Rattle.time_laws.proofs.Begun.{Late, late_then, late_rounds}
 
 -- what of it is done by the time j
-abbrev pub cut : ℕ → Course → Out
+abbrev pub cut : ℕ → TimedCourse → Out
 cut j a = record { acts = due j a.acts; done = leb a.till j }
 
 pub same_out : (a b : Out) → a.acts ≡ b.acts → a.done ≡ b.done → a ≡ b
@@ -20,16 +20,16 @@ same_out a b e f = two a.acts b.acts a.done b.done e f
     two : (xs ys : List Action) (d u : Bool) → xs ≡ ys → d ≡ u → let x : Out = record { acts = xs; done = d } in let y : Out = record { acts = ys; done = u } in x ≡ y
     two xs ys d u e f = rw (e, f) refl
 
-pub due-append : (j : ℕ) (xs ys : List TimedAct) → due j (xs ++ ys) ≡ due j xs ++ due j ys
+pub due-append : (j : ℕ) (xs ys : List TimedAction) → due j (xs ++ ys) ≡ due j xs ++ due j ys
 due-append j xs ys = ap (map act_of) (filter-append (is_due j) xs ys) ∙ map-append act_of (filter (is_due j) xs) (filter (is_due j) ys)
 
-pub due_none : (j : ℕ) (xs : List TimedAct) → ((x : TimedAct) → In x xs → j < x.at) → due j xs ≡ []
+pub due_none : (j : ℕ) (xs : List TimedAction) → ((x : TimedAction) → In x xs → j < x.at) → due j xs ≡ []
 due_none j xs h = ap (map act_of) (filter_none (is_due j) xs (λ x i. lt-leb x.at j (h x i)))
 
-pub cut_late : (j t : ℕ) (a : Course) → Late t a → j < t → cut j a ≡ idle false
+pub cut_late : (j t : ℕ) (a : TimedCourse) → Late t a → j < t → cut j a ≡ idle false
 cut_late j t a h l = same_out (cut j a) (idle false) (due_none j a.acts (λ x i. let r = h.acts x i in omega arith)) (lt-leb a.till j (let r = h.till in omega arith))
 
-pub seq_cut : (j : ℕ) (a : Course) (f : ℕ → Course) (b : Out) → Late a.till (f a.till) → (a.till ≤ j → b ≡ cut j (f a.till)) → seq (cut j a) b ≡ cut j (then_on a f)
+pub seq_cut : (j : ℕ) (a : TimedCourse) (f : ℕ → TimedCourse) (b : Out) → Late a.till (f a.till) → (a.till ≤ j → b ≡ cut j (f a.till)) → seq (cut j a) b ≡ cut j (then_on a f)
 seq_cut j a f b h e = go (leb a.till j) refl
   where
     go : (d : Bool) → leb a.till j ≡ d → seq_if d (cut j a) b ≡ cut j (then_on a f)
@@ -57,7 +57,7 @@ max_leb t a j l = elim (cases_lt j a) [
   | inr m ↦ le-leb a j m ∙ sym (le-leb (max t a) j (omega arith))
 ]
 
-pub loop_cut : (j : ℕ) (c : Clock) (F : Node → Out) (f : Node → ℕ → Course) → ((n : Node) (u : ℕ) → Late u (f n u)) → (low : ℕ) (ns : List Node) (over t : ℕ) → low ≤ t → t ≤ j → Rises c ns over
+pub loop_cut : (j : ℕ) (c : Clock) (F : Node → Out) (f : Node → ℕ → TimedCourse) → ((n : Node) (u : ℕ) → Late u (f n u)) → (low : ℕ) (ns : List Node) (over t : ℕ) → low ≤ t → t ≤ j → Rises c ns over
     → ((n : Node) (u : ℕ) → In n ns → low ≤ u → c.opened (serial_of n) ≤ u → u ≤ j → F n ≡ cut j (f n u))
     → loop F (filter (is_there c j) ns) (leb over j) ≡ cut j (rounds c f ns over t)
 loop_cut j c F f h low [] over t b l r e = same_out (idle (leb over j)) (cut j (none_till (max t over))) refl (max_leb t over j l)

@@ -6,10 +6,10 @@ use Rattle.std.proofs.lemmas.Bool.{leb-true, le-leb, lt-ltb, ltb-true, false≢t
 use Rattle.std.proofs.lemmas.List.{take-append-drop}
 use Rattle.std.proofs.Math.Seq.{take-length}
 use Rattle.gcx_base.specs.declared.steps.Step.{Step}
-use Rattle.gcx_model.specs.Tree.{Node, serial_of, above, within, Tree, Token, opening, grow, grow_all, is_open_at}
+use Rattle.gcx_model.specs.Tree.{Node, serial_of, above, within, Tree, TreeToken, opening, grow, grow_all, is_open_at}
 use Rattle.gcx_model.specs.Paths.{any, matches}
 use Rattle.gcx_model.specs.Members.{count}
-use Rattle.gcx_model.specs.Core.{RoleKind, BodyTree, OffTree, PlanTree}
+use Rattle.gcx_model.specs.Core.{RoleTarget, BodyTree, OffTree, PlanTree}
 use Rattle.gcx_model.specs.Run.{Action, Offed, env0}
 use Rattle.gcx_model.specs.Cores.{Good}
 use Rattle.gcx_model.specs.Roles.{roles_of}
@@ -48,7 +48,7 @@ split_in x [] i = absurd i
 split_in x (y ∷ xs) (inl e) = ([], xs, ap (λ (z : Action). z ∷ xs) e)
 split_in x (y ∷ xs) (inr i) = let r = split_in x xs i in (y ∷ r.0, r.1, ap (λ z. y ∷ z) r.2)
 
-may_split : (j : ℕ) (ts : List Token) (P : Tree) → may_all ts P ≡ true → (may_all (take j ts) P ≡ true) × (may_all (drop j ts) (grow_all (take j ts) P) ≡ true)
+may_split : (j : ℕ) (ts : List TreeToken) (P : Tree) → may_all ts P ≡ true → (may_all (take j ts) P ≡ true) × (may_all (drop j ts) (grow_all (take j ts) P) ≡ true)
 may_split zero ts P h = (refl, h)
 may_split (suc j) [] P h = (refl, refl)
 may_split (suc j) (t ∷ ts) P h =
@@ -56,7 +56,7 @@ may_split (suc j) (t ∷ ts) P h =
     let r = may_split j ts (grow t P) a.1 in
     (and_from (may_come t P) (may_all (take j ts) (grow t P)) a.0 r.0, r.1)
 
-gives_on : (us : List Token) (P : Tree) → Grown P → (m : ℕ) (rel tail : List Step) (k : RoleKind) (n : Node) → In n P.nodes → gives (grow_all us P) m rel tail k n ≡ gives P m rel tail k n
+gives_on : (us : List TreeToken) (P : Tree) → Grown P → (m : ℕ) (rel tail : List Step) (k : RoleTarget) (n : Node) → In n P.nodes → gives (grow_all us P) m rel tail k n ≡ gives P m rel tail k n
 gives_on [] P w m rel tail k n i = refl
 gives_on (t ∷ us) P w m rel tail k n i = gives_on us (grow t P) (Grown-grow t P w) m rel tail k n (nodes_stay (t ∷ []) P n i) ∙ gives_same t P w m rel tail k n i
 
@@ -68,7 +68,7 @@ pub core_state : (plan : PlanTree) (P : Tree) → Leads opening P → (k : ℕ) 
 core_state plan P l zero h = fed_state plan P l
 core_state plan P l (suc k) h = acted (core_state plan P l k (omega arith)) (omega arith)
 
-module _ (core : BodyTree) (good : Good core) (plan : PlanTree) (pl : Placed core plan) (ts : List Token) (may : may_all ts opening ≡ true) (shut : (grow_all ts opening).at ≡ None) (c : Clock) (ck : IsClock c ts (grow_all ts opening) (length ts)) where
+module _ (core : BodyTree) (good : Good core) (plan : PlanTree) (pl : Placed core plan) (ts : List TreeToken) (may : may_all ts opening ≡ true) (shut : (grow_all ts opening).at ≡ None) (c : Clock) (ck : IsClock c ts (grow_all ts opening) (length ts)) where
   abbrev pub C : Tree
   C = grow_all ts opening
 
@@ -85,7 +85,7 @@ module _ (core : BodyTree) (good : Good core) (plan : PlanTree) (pl : Placed cor
   pub lead_step : (j : ℕ) → Leads (tree_at ts j) (tree_at ts (suc j))
   lead_step j = go j ts opening may
     where
-      go : (j : ℕ) (ts : List Token) (P : Tree) → may_all ts P ≡ true → Leads (grow_all (take j ts) P) (grow_all (take (suc j) ts) P)
+      go : (j : ℕ) (ts : List TreeToken) (P : Tree) → may_all ts P ≡ true → Leads (grow_all (take j ts) P) (grow_all (take (suc j) ts) P)
       go zero [] P h = stays
       go zero (t ∷ ts) P h = leads (t ∷ []) P (and_from (may_come t P) true (and_parts (may_come t P) (may_all ts (grow t P)) h).0 refl)
       go (suc j) [] P h = stays

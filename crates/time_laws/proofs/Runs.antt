@@ -4,11 +4,11 @@ use Rattle.std.specs.List.{filter}
 use Rattle.std.proofs.lemmas.Bool.{leb-true, le-leb, lt-leb, cases_lt}
 use Rattle.gcx_base.specs.declared.kind.Kind.{Kind}
 use Rattle.gcx_base.specs.declared.kind.Kind.TheVariants.{Document, Element, Text}
-use Rattle.gcx_model.specs.Tree.{Node, Root, serial_of, kind_of, Tree, Token, opening, is_closed}
+use Rattle.gcx_model.specs.Tree.{Node, Root, serial_of, kind_of, Tree, TreeToken, opening, is_closed}
 use Rattle.gcx_model.specs.Paths.{matches}
 use Rattle.gcx_model.specs.Answer.{child_step, children}
 use Rattle.gcx_model.specs.Written.{start_tag, end_tag, escaped}
-use Rattle.gcx_model.specs.Core.{ItemTree, Write, Copy, For, If, Off, BodyTree, Nil, Then}
+use Rattle.gcx_model.specs.Core.{ItemTree, Write, Copy, For, If, SignOff, BodyTree, Nil, Then}
 use Rattle.gcx_model.specs.declared.truth.Truth.{Truth}
 use Rattle.gcx_model.specs.Truth.{Env, bind_var}
 use Rattle.gcx_model.specs.Run.{Wrote, Offed, Out, wrote, idle, seq, loop, copy_with, copy, choose, run_item, run, env0}
@@ -16,17 +16,17 @@ use Rattle.tree_laws.proofs.Lists.{In, In-filter, In-kept}
 use Rattle.tree_laws.proofs.Matches.{Grown, Grown-all, Grown-opening, Numbered-high, Matches-in}
 use Rattle.placed_laws.proofs.Whole.{child_above}
 use Rattle.std.specs.Prelude.{take}
-use Rattle.time_laws.specs.Times.{Clock, IsClock, tree_at, is_there, Course, one_act, none_till, then_on, rounds, copy_course_with, copy_course, Settled, settled, item_course, course}
+use Rattle.time_laws.specs.Times.{Clock, IsClock, tree_at, is_there, TimedCourse, one_act, none_till, then_on, rounds, copy_course_with, copy_course, SettledTruth, settled, item_course, course}
 use Rattle.time_laws.specs.Laws.{RunByTimes}
 use Rattle.time_laws.proofs.Begun.{Late, late_one, late_then, late_rounds, late_copy, late_item, late_course, late_branch}
 use Rattle.time_laws.proofs.Cuts.{cut, same_out, cut_late, seq_cut, one_cut, loop_cut}
 use Rattle.time_laws.proofs.Truths.{verdict_of, verdict_at, AreThere, matches_cut, matches_rise, truth_cut}
 
-copy_with_cut : (j : ℕ) (k : Kind) (inner : Out) (f : ℕ → Course) (t : ℕ) → t ≤ j → ((u : ℕ) → Late u (f u)) → inner ≡ cut j (f t) → copy_with k inner ≡ cut j (copy_course_with k f t)
+copy_with_cut : (j : ℕ) (k : Kind) (inner : Out) (f : ℕ → TimedCourse) (t : ℕ) → t ≤ j → ((u : ℕ) → Late u (f u)) → inner ≡ cut j (f t) → copy_with k inner ≡ cut j (copy_course_with k f t)
 copy_with_cut j Document inner f t l h e = e
 copy_with_cut j (Element name) inner f t l h e =
-    let a : Course = one_act t (Wrote (start_tag name)) in
-    let close : ℕ → Course = λ v. one_act v (Wrote (end_tag name)) in
+    let a : TimedCourse = one_act t (Wrote (start_tag name)) in
+    let close : ℕ → TimedCourse = λ v. one_act v (Wrote (end_tag name)) in
     ap (λ (z : Out). seq z (seq inner (wrote (end_tag name)))) (sym (one_cut j t (Wrote (start_tag name)) l))
     ∙ seq_cut j a (λ u. then_on (f u) close) (seq inner (wrote (end_tag name))) (late_copy_with_rest t)
     (λ m. ap (λ (z : Out). seq z (wrote (end_tag name))) e ∙ seq_cut j (f t) close (wrote (end_tag name)) (late_one (f t).till (Wrote (end_tag name))) (λ q. sym (one_cut j (f t).till (Wrote (end_tag name)) q)))
@@ -35,7 +35,7 @@ copy_with_cut j (Element name) inner f t l h e =
     late_copy_with_rest u = late_then u (f u) (λ v. one_act v (Wrote (end_tag name))) (h u) (λ v. late_one v (Wrote (end_tag name)))
 copy_with_cut j (Text b) inner f t l h e = sym (one_cut j t (Wrote (escaped b)) l)
 
-module _ (c : Clock) (ts : List Token) (C : Tree) (most : ℕ) (k : IsClock c ts C most) (j : ℕ) (l : j ≤ most) where
+module _ (c : Clock) (ts : List TreeToken) (C : Tree) (most : ℕ) (k : IsClock c ts C most) (j : ℕ) (l : j ≤ most) where
   grown_at : Grown (tree_at ts j)
   grown_at = Grown-all (take j ts) opening Grown-opening
 
@@ -70,7 +70,7 @@ module _ (c : Clock) (ts : List Token) (C : Tree) (most : ℕ) (k : IsClock c ts
       go true = (i, o)
       go false = b y
 
-  branch_cut : (s : Settled) (a b : BodyTree) (env : Env) (t : ℕ) → t ≤ j
+  branch_cut : (s : SettledTruth) (a b : BodyTree) (env : Env) (t : ℕ) → t ≤ j
       → ((u : ℕ) → t ≤ u → u ≤ j → run a env (tree_at ts j) ≡ cut j (course c C a env u))
       → ((u : ℕ) → t ≤ u → u ≤ j → run b env (tree_at ts j) ≡ cut j (course c C b env u))
       → choose (verdict_at j s) (run a env (tree_at ts j)) (run b env (tree_at ts j)) ≡ cut j (cond s.truth (course c C a env (max t s.at)) (course c C b env (max t s.at)))
@@ -96,7 +96,7 @@ module _ (c : Clock) (ts : List Token) (C : Tree) (most : ℕ) (k : IsClock c ts
     item_cut (If q a e) env t b m =
         ap (λ (z : Truth). choose z (run a env (tree_at ts j)) (run e env (tree_at ts j))) (truth_cut c ts C most k j l q env (bound_on t j env m b))
         ∙ branch_cut (settled c C q env) a e env t m (λ u p r. run_cut a env u (bound_on t u env p b) r) (λ u p r. run_cut e env u (bound_on t u env p b) r)
-    item_cut (Off o) env t b m = sym (one_cut j t (Offed o (serial_of (env o.base))) m)
+    item_cut (SignOff o) env t b m = sym (one_cut j t (Offed o (serial_of (env o.base))) m)
 
     pub run_cut : (d : BodyTree) (env : Env) (t : ℕ) → AreThere c ts C most k j l t env → t ≤ j → run d env (tree_at ts j) ≡ cut j (course c C d env t)
     run_cut Nil env t b m = same_out (idle true) (cut j (none_till t)) refl (sym (le-leb t j m))

@@ -6,7 +6,7 @@ use Rattle.std.proofs.lemmas.Bool.{le-leb, lt-leb, lt-ltb, le-ltb, eq-eqb, ne_eq
 use Rattle.std.proofs.lemmas.List.{length-append, take-append-drop}
 use Rattle.std.proofs.lemmas.List.Elements.{filter-append}
 use Rattle.std.proofs.Math.Seq.{take-length}
-use Rattle.gcx_model.specs.Tree.{Node, Root, serial_of, within, Tree, Token, opening, grow, grow_all}
+use Rattle.gcx_model.specs.Tree.{Node, Root, serial_of, within, Tree, TreeToken, opening, grow, grow_all}
 use Rattle.gcx_model.specs.Core.{BodyTree, OffTree, PlanTree}
 use Rattle.gcx_model.specs.Run.{Action, Wrote, Offed, env0}
 use Rattle.gcx_model.specs.Cores.{Good}
@@ -22,7 +22,7 @@ use Rattle.placed_laws.proofs.RunForms.{prefix_law}
 use Rattle.tree_laws.proofs.Fed.{root_from}
 use Rattle.tree_laws.proofs.Freeze.{within_self}
 use Rattle.placed_laws.proofs.Stays.{new_serial}
-use Rattle.time_laws.specs.Times.{Clock, IsClock, tree_at, is_there, TimedAct, timed_acts, due}
+use Rattle.time_laws.specs.Times.{Clock, IsClock, tree_at, is_there, TimedAction, timed_acts, due}
 use Rattle.time_laws.specs.Leaving.{count_offs, freed_of, left_where, is_freed, is_closed_and_freed, act_told, acts_told, next_due, tokens_told, told_by_times}
 use Rattle.time_laws.specs.Laws.{TraceByTimes}
 use Rattle.time_laws.proofs.Runs.{run_by_times}
@@ -98,7 +98,7 @@ over_new d j f k l = elim (cases_order d (suc j)) [
   ]
 ]
 
-module _ (core : BodyTree) (good : Good core) (plan : PlanTree) (pl : Placed core plan) (full : List Token) (may : may_all full opening ≡ true) (shut : (grow_all full opening).at ≡ None) (c : Clock) (ck : IsClock c full (grow_all full opening) (length full)) where
+module _ (core : BodyTree) (good : Good core) (plan : PlanTree) (pl : Placed core plan) (full : List TreeToken) (may : may_all full opening ≡ true) (shut : (grow_all full opening).at ≡ None) (c : Clock) (ck : IsClock c full (grow_all full opening) (length full)) where
   abbrev C : Tree
   C = grow_all full opening
 
@@ -214,18 +214,18 @@ module _ (core : BodyTree) (good : Good core) (plan : PlanTree) (pl : Placed cor
   take_front [] ys = refl
   take_front (x ∷ xs) ys = ap (λ z. x ∷ z) (take_front xs ys)
 
-  acts_grow : (j : ℕ) → (t : Token) → tree_at full (suc j) ≡ grow t (tree_at full j) → (rest : List Action) × (actions plan (tree_at full (suc j)) ≡ actions plan (tree_at full j) ++ rest)
+  acts_grow : (j : ℕ) → (t : TreeToken) → tree_at full (suc j) ≡ grow t (tree_at full j) → (rest : List Action) × (actions plan (tree_at full (suc j)) ≡ actions plan (tree_at full j) ++ rest)
   acts_grow j t e =
       let l = lead_to core good plan pl full may shut c ck j in
       let m : Leads (tree_at full j) (tree_at full (suc j)) = leads_one j t e in
       (prefix_law (tree_at full j) (tree_at full (suc j)) l m plan.body env0 (λ x. root_from (tree_at full j) l)).0
     where
-      leads_one : (j : ℕ) (t : Token) → tree_at full (suc j) ≡ grow t (tree_at full j) → Leads (tree_at full j) (tree_at full (suc j))
+      leads_one : (j : ℕ) (t : TreeToken) → tree_at full (suc j) ≡ grow t (tree_at full j) → Leads (tree_at full j) (tree_at full (suc j))
       leads_one j t e = lead_step core good plan pl full may shut c ck j
 
   -- ---- a token
 
-  token_step : (j : ℕ) → suc j ≤ length full → (t : Token) → tree_at full (suc j) ≡ grow t (tree_at full j)
+  token_step : (j : ℕ) → suc j ≤ length full → (t : TreeToken) → tree_at full (suc j) ≡ grow t (tree_at full j)
       → left (held plan (tree_at full j) (actions plan (tree_at full j)) ++ drop (length (tree_at full j).nodes) (tree_at full (suc j)).nodes) (held plan (tree_at full (suc j)) (actions plan (tree_at full j)))
       ≡ left_where (grow_all full opening) (is_closed_and_freed c (grow_all full opening) (actions plan (grow_all full opening)) (suc j) (count_offs (actions plan (tree_at full j))))
   token_step j lj t e =
@@ -326,7 +326,7 @@ module _ (core : BodyTree) (good : Good core) (plan : PlanTree) (pl : Placed cor
   joined : (f x y z : List Line) → (f ++ (x ++ y)) ++ z ≡ f ++ (x ++ (y ++ z))
   joined f x y z = append_assoc f (x ++ y) z ∙ ap (λ w. f ++ w) (append_assoc x y z)
 
-  told_on : (rest pre us : List Token) (j : ℕ) → length pre ≡ j → full ≡ pre ++ (rest ++ us)
+  told_on : (rest pre us : List TreeToken) (j : ℕ) → length pre ≡ j → full ≡ pre ++ (rest ++ us)
       → demand plan rest (tree_at full j)
       ≡ tokens_told plan c (grow_all full opening) (timed_acts c (grow_all full opening) plan) (actions plan (grow_all full opening)) rest (tree_at full j) j
   told_on [] pre us j n e = refl
@@ -349,7 +349,7 @@ module _ (core : BodyTree) (good : Good core) (plan : PlanTree) (pl : Placed cor
       A : List Action
       A = actions plan (tree_at full j)
 
-      T' : List TimedAct
+      T' : List TimedAction
       T' = timed_acts c (grow_all full opening) plan
 
       over : List Action → List Line
@@ -364,13 +364,13 @@ module _ (core : BodyTree) (good : Good core) (plan : PlanTree) (pl : Placed cor
       lj : suc j ≤ length full
       lj = let h = ap length e ∙ length-append pre (t ∷ (rest ++ us)) in omega (arith, h, n)
 
-      grow_take : (xs : List Token) (more : List Token) (R : Tree) → grow_all (take (suc (length xs)) (xs ++ t ∷ more)) R ≡ grow t (grow_all (take (length xs) (xs ++ t ∷ more)) R)
+      grow_take : (xs : List TreeToken) (more : List TreeToken) (R : Tree) → grow_all (take (suc (length xs)) (xs ++ t ∷ more)) R ≡ grow t (grow_all (take (length xs) (xs ++ t ∷ more)) R)
       grow_take [] more R = refl
       grow_take (x ∷ xs) more R = grow_take xs more (grow x R)
 
       grown : tree_at full (suc j) ≡ grow t (tree_at full j)
       grown = subst (λ (z : ℕ). grow_all (take (suc z) full) opening ≡ grow t (grow_all (take z full) opening)) n
-          (subst (λ (z : List Token). grow_all (take (suc (length pre)) z) opening ≡ grow t (grow_all (take (length pre) z) opening)) (sym e) (grow_take pre (rest ++ us) opening))
+          (subst (λ (z : List TreeToken). grow_all (take (suc (length pre)) z) opening ≡ grow t (grow_all (take (length pre) z) opening)) (sym e) (grow_take pre (rest ++ us) opening))
 
       behind : (more : List Action) × (actions plan (tree_at full (suc j)) ≡ actions plan (tree_at full j) ++ more)
       behind = acts_grow j t grown
@@ -388,7 +388,7 @@ module _ (core : BodyTree) (good : Good core) (plan : PlanTree) (pl : Placed cor
           (acts_on (suc j) lj (drop (length (actions plan (tree_at full j))) (actions plan (tree_at full (suc j)))) (length (actions plan (tree_at full j)))
           (sym (take-append-drop (length (actions plan (tree_at full j))) (actions plan (tree_at full (suc j))))) fits)
 
-  pub told_all : (ts us : List Token) → full ≡ ts ++ us
+  pub told_all : (ts us : List TreeToken) → full ≡ ts ++ us
       → trace_lines plan ts ≡ told_by_times plan c (grow_all full opening) (timed_acts c (grow_all full opening) plan) (actions plan (grow_all full opening)) ts
   told_all ts us e =
       ap (λ z. opened_line plan opening Root ∷ (z ++ demand plan ts opening)) (acts_on 0 (omega arith) (actions plan opening) 0 refl (omega arith))

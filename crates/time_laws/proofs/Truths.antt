@@ -3,11 +3,11 @@ use Rattle.std.proofs.Common.{◌≡◌, ℕ, ◌<◌, ◌≤◌, Bool, true, fa
 use Rattle.std.specs.List.{filter}
 use Rattle.std.proofs.lemmas.Bool.{leb-true, leb-false, le-leb, lt-leb, cases_lt}
 use Rattle.gcx_base.specs.declared.steps.Step.{Step}
-use Rattle.gcx_model.specs.Tree.{Node, serial_of, Tree, Token, is_closed}
+use Rattle.gcx_model.specs.Tree.{Node, serial_of, Tree, TreeToken, is_closed}
 use Rattle.gcx_model.specs.Paths.{any, hits, matches}
-use Rattle.gcx_model.specs.Values.{Value, compare}
+use Rattle.gcx_model.specs.Values.{ComparedValue, compare}
 use Rattle.gcx_model.specs.Answer.{some_pair, is_any}
-use Rattle.gcx_model.specs.Core.{OperandTree, Path, Str, Num, CondTree, CondTrees, Always, Exists, Compare, Not, All, Any, no_cond, more_conds}
+use Rattle.gcx_model.specs.Core.{OperandTree, Path, Str, Num, CondTree, CondTrees, Always, Exists, Compare, Not, AllOf, AnyOf, no_cond, more_conds}
 use Rattle.gcx_model.specs.declared.truth.Truth.{Truth}
 use Rattle.gcx_model.specs.declared.truth.Truth.TheVariants.{True, False, Unknown}
 use Rattle.gcx_model.specs.Truth.{Env, node_value, settled_values, is_over, settle, negate, both, either, truth, truth_all, truth_any}
@@ -15,7 +15,7 @@ use Rattle.tree_laws.proofs.Lists.{In, filter_none}
 use Rattle.tree_laws.proofs.Held.{filter_comm}
 use Rattle.tree_laws.proofs.Matches.{Rising, Matches-rising, Matches-in}
 use Rattle.tree_laws.proofs.Freeze.{hits_within}
-use Rattle.time_laws.specs.Times.{Clock, IsClock, tree_at, is_there, Settled, exists_settled, TimedValue, timed_values, over_at, sooner, pair_at, earliest_with, earliest, compare_settled, both_settled, either_settled, settled, settled_all, settled_any}
+use Rattle.time_laws.specs.Times.{Clock, IsClock, tree_at, is_there, SettledTruth, exists_settled, TimedValue, timed_values, over_at, sooner, pair_at, earliest_with, earliest, compare_settled, both_settled, either_settled, settled, settled_all, settled_any}
 use Rattle.time_laws.proofs.Cuts.{Rises}
 
 -- ---- numbers
@@ -49,10 +49,10 @@ verdict_if true b = verdict_of b
 verdict_if false b = Unknown
 
 -- what is known by the time j
-abbrev pub verdict_at : ℕ → Settled → Truth
+abbrev pub verdict_at : ℕ → SettledTruth → Truth
 verdict_at j s = verdict_if (leb s.at j) s.truth
 
-negate_at : (j : ℕ) (s : Settled) → negate (verdict_at j s) ≡ verdict_at j (record { at = s.at; truth = not s.truth })
+negate_at : (j : ℕ) (s : SettledTruth) → negate (verdict_at j s) ≡ verdict_at j (record { at = s.at; truth = not s.truth })
 negate_at j s = go (leb s.at j) s.truth
   where
     go : (a b : Bool) → negate (verdict_if a b) ≡ verdict_if a (not b)
@@ -60,7 +60,7 @@ negate_at j s = go (leb s.at j) s.truth
     go true false = refl
     go false b = refl
 
-both_at : (j : ℕ) (a b : Settled) → both (verdict_at j a) (verdict_at j b) ≡ verdict_at j (both_settled a b)
+both_at : (j : ℕ) (a b : SettledTruth) → both (verdict_at j a) (verdict_at j b) ≡ verdict_at j (both_settled a b)
 both_at j a b = go a.truth refl (cases_lt j a.at)
   where
     go : (x : Bool) → a.truth ≡ x → (j < a.at) ⊎ (a.at ≤ j) → both (verdict_if (leb a.at j) x) (verdict_at j b) ≡ verdict_at j (cond x (record { at = max a.at b.at; truth = b.truth }) a)
@@ -69,7 +69,7 @@ both_at j a b = go a.truth refl (cases_lt j a.at)
     go false e (inl l) = rw (lt-leb a.at j l) refl
     go false e (inr l) = rw (le-leb a.at j l) (ap verdict_of (sym e))
 
-either_at : (j : ℕ) (a b : Settled) → either (verdict_at j a) (verdict_at j b) ≡ verdict_at j (either_settled a b)
+either_at : (j : ℕ) (a b : SettledTruth) → either (verdict_at j a) (verdict_at j b) ≡ verdict_at j (either_settled a b)
 either_at j a b = go a.truth refl (cases_lt j a.at)
   where
     go : (x : Bool) → a.truth ≡ x → (j < a.at) ⊎ (a.at ≤ j) → either (verdict_if (leb a.at j) x) (verdict_at j b) ≡ verdict_at j (cond x a (record { at = max a.at b.at; truth = b.truth }))
@@ -94,7 +94,7 @@ is_by j (Some t) = leb t j
 abbrev pub counts : ℕ → TimedValue → Bool
 counts j v = leb v.0 j
 
-abbrev pub value_of : TimedValue → Value
+abbrev pub value_of : TimedValue → ComparedValue
 value_of v = v.1
 
 sooner_by : (j : ℕ) (a b : Option ℕ) → is_by j (sooner a b) ≡ (is_by j a || is_by j b)
@@ -114,7 +114,7 @@ pair_by : (j t : ℕ) (b : Bool) → t ≤ j → is_by j (pair_at b t) ≡ b
 pair_by j t true l = le-leb t j l
 pair_by j t false l = refl
 
-with_cut : (j : ℕ) (r : Value → Value → Bool) (v : TimedValue) (ws : List TimedValue) → v.0 ≤ j → any (r v.1) (map value_of (filter (counts j) ws)) ≡ is_by j (earliest_with r v ws)
+with_cut : (j : ℕ) (r : ComparedValue → ComparedValue → Bool) (v : TimedValue) (ws : List TimedValue) → v.0 ≤ j → any (r v.1) (map value_of (filter (counts j) ws)) ≡ is_by j (earliest_with r v ws)
 with_cut j r v [] l = refl
 with_cut j r v (w ∷ ws) l = go (leb w.0 j) refl (with_cut j r v ws l) ∙ sym (sooner_by j (pair_at (r v.1 w.1) (max v.0 w.0)) (earliest_with r v ws))
   where
@@ -123,11 +123,11 @@ with_cut j r v (w ∷ ws) l = go (leb w.0 j) refl (with_cut j r v ws l) ∙ sym 
     go true e ih = let k = leb-true w.0 j e in rw (pair_by j (max v.0 w.0) (r v.1 w.1) (omega arith), ih) refl
     go false e ih = let k = leb-false w.0 j e in rw (pair_late j (max v.0 w.0) (r v.1 w.1) (omega arith)) ih
 
-with_late : (j : ℕ) (r : Value → Value → Bool) (v : TimedValue) (ws : List TimedValue) → j < v.0 → is_by j (earliest_with r v ws) ≡ false
+with_late : (j : ℕ) (r : ComparedValue → ComparedValue → Bool) (v : TimedValue) (ws : List TimedValue) → j < v.0 → is_by j (earliest_with r v ws) ≡ false
 with_late j r v [] l = refl
 with_late j r v (w ∷ ws) l = sooner_by j (pair_at (r v.1 w.1) (max v.0 w.0)) (earliest_with r v ws) ∙ rw (pair_late j (max v.0 w.0) (r v.1 w.1) (omega arith)) (with_late j r v ws l)
 
-pub pairs_cut : (j : ℕ) (r : Value → Value → Bool) (vs ws : List TimedValue) → some_pair r (map value_of (filter (counts j) vs)) (map value_of (filter (counts j) ws)) ≡ is_by j (earliest r vs ws)
+pub pairs_cut : (j : ℕ) (r : ComparedValue → ComparedValue → Bool) (vs ws : List TimedValue) → some_pair r (map value_of (filter (counts j) vs)) (map value_of (filter (counts j) ws)) ≡ is_by j (earliest r vs ws)
 pairs_cut j r [] ws = refl
 pairs_cut j r (v ∷ vs) ws = go (leb v.0 j) refl (pairs_cut j r vs ws) ∙ sym (sooner_by j (earliest_with r v ws) (earliest r vs ws))
   where
@@ -150,13 +150,13 @@ pair_within : (o t : ℕ) (b : Bool) → t ≤ o → IsWithin o (pair_at b t)
 pair_within o t true l = l
 pair_within o t false l = tt
 
-with_within : (o p : ℕ) (r : Value → Value → Bool) (v : TimedValue) (ws : List TimedValue) → v.0 ≤ o → ((w : TimedValue) → In w ws → w.0 ≤ p) → IsWithin (max o p) (earliest_with r v ws)
+with_within : (o p : ℕ) (r : ComparedValue → ComparedValue → Bool) (v : TimedValue) (ws : List TimedValue) → v.0 ≤ o → ((w : TimedValue) → In w ws → w.0 ≤ p) → IsWithin (max o p) (earliest_with r v ws)
 with_within o p r v [] l h = tt
 with_within o p r v (w ∷ ws) l h =
     let m = h w (inl refl) in
     sooner_within (max o p) (pair_at (r v.1 w.1) (max v.0 w.0)) (earliest_with r v ws) (pair_within (max o p) (max v.0 w.0) (r v.1 w.1) (omega arith)) (with_within o p r v ws l (λ x i. h x (inr i)))
 
-pairs_within : (o p : ℕ) (r : Value → Value → Bool) (vs ws : List TimedValue) → ((v : TimedValue) → In v vs → v.0 ≤ o) → ((w : TimedValue) → In w ws → w.0 ≤ p) → IsWithin (max o p) (earliest r vs ws)
+pairs_within : (o p : ℕ) (r : ComparedValue → ComparedValue → Bool) (vs ws : List TimedValue) → ((v : TimedValue) → In v vs → v.0 ≤ o) → ((w : TimedValue) → In w ws → w.0 ≤ p) → IsWithin (max o p) (earliest r vs ws)
 pairs_within o p r [] ws h k = tt
 pairs_within o p r (v ∷ vs) ws h k = sooner_within (max o p) (earliest_with r v ws) (earliest r vs ws) (with_within o p r v ws (h v (inl refl)) k) (pairs_within o p r vs ws (λ x i. h x (inr i)) k)
 
@@ -169,7 +169,7 @@ compare_at j o (Some t) h = elim (cases_lt j t) [
 
 -- ---- conditions
 
-module _ (c : Clock) (ts : List Token) (C : Tree) (most : ℕ) (k : IsClock c ts C most) (j : ℕ) (l : j ≤ most) where
+module _ (c : Clock) (ts : List TreeToken) (C : Tree) (most : ℕ) (k : IsClock c ts C most) (j : ℕ) (l : j ≤ most) where
   -- bound to nodes that are there
   abbrev pub AreThere : ℕ → Env → Type 0
   AreThere t env = (x : ℕ) → In (env x) C.nodes × (c.opened (serial_of (env x)) ≤ t)
@@ -278,8 +278,8 @@ module _ (c : Clock) (ts : List Token) (C : Tree) (most : ℕ) (k : IsClock c ts
         ∙ (ap (λ z. settle (is_by j (earliest (compare rel) vs ws)) z) done
         ∙ compare_at j (max (over_at c env f) (over_at c env s)) (earliest (compare rel) vs ws) (pairs_within (over_at c env f) (over_at c env s) (compare rel) vs ws (values_within env b f) (values_within env b s)))
     truth_cut (Not q) env b = ap negate (truth_cut q env b) ∙ negate_at j (settled c C q env)
-    truth_cut (All qs) env b = all_cut qs env b
-    truth_cut (Any qs) env b = any_cut qs env b
+    truth_cut (AllOf qs) env b = all_cut qs env b
+    truth_cut (AnyOf qs) env b = any_cut qs env b
 
     all_cut : (qs : CondTrees) (env : Env) → AreThere j env → truth_all qs env (tree_at ts j) ≡ verdict_at j (settled_all c C qs env)
     all_cut no_cond env b = rw (le-leb 0 j (omega arith)) refl

@@ -1,11 +1,11 @@
 -- When nodes leave, by the times of a run over a whole tree (this project's).
 use Rattle.std.specs.Prelude.{ℕ, suc, Bool, cond, ◌&&◌, List, [], ◌∷◌, ◌++◌, length, map, max, drop, reverse, ◌==◌, ◌+◌, nat_le, filter}
-use Rattle.gcx_model.specs.Tree.{Node, Root, serial_of, within, Tree, Token, opening, grow}
+use Rattle.gcx_model.specs.Tree.{Node, Root, serial_of, within, Tree, TreeToken, opening, grow}
 use Rattle.gcx_model.specs.Core.{PlanTree}
 use Rattle.gcx_model.specs.Run.{Action, Wrote, Offed}
 use Rattle.gcx_model.specs.Held.{gives}
 use Rattle.gcx_model.specs.Demand.{Line, Written, SignedOff, Left, opened_line, feed_line}
-use Rattle.time_laws.specs.Times.{Clock, TimedAct, due}
+use Rattle.time_laws.specs.Times.{Clock, TimedAction, due}
 
 -- how many of the actions carry out a statement
 abbrev pub count_offs : List Action → ℕ
@@ -55,11 +55,11 @@ acts_told c C all j k [] = []
 acts_told c C all j k (a ∷ more) = act_told c C all j k a ++ acts_told c C all j (count_offs (a ∷ []) + k) more
 
 -- the actions at the time suc j
-abbrev pub next_due : List TimedAct → ℕ → List Action
+abbrev pub next_due : List TimedAction → ℕ → List Action
 next_due T j = drop (length (due j T)) (due (suc j) T)
 
 -- the tokens behind the time j, at which the tree is P
-abbrev pub tokens_told : PlanTree → Clock → Tree → List TimedAct → List Action → List Token → Tree → (j : ℕ)
+abbrev pub tokens_told : PlanTree → Clock → Tree → List TimedAction → List Action → List TreeToken → Tree → (j : ℕ)
     → List Line
 tokens_told plan c C T all [] P j = []
 tokens_told plan c C T all (t ∷ ts) P j =
@@ -69,6 +69,6 @@ tokens_told plan c C T all (t ∷ ts) P j =
     ++ tokens_told plan c C T all ts (grow t P) (suc j)))
 
 -- the lines of the demand run over these tokens, told by times
-abbrev pub told_by_times : PlanTree → Clock → Tree → List TimedAct → List Action → List Token → List Line
+abbrev pub told_by_times : PlanTree → Clock → Tree → List TimedAction → List Action → List TreeToken → List Line
 told_by_times plan c C T all ts =
     opened_line plan opening Root ∷ (acts_told c C all 0 0 (due 0 T) ++ tokens_told plan c C T all ts opening 0)

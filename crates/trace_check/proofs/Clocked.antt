@@ -7,7 +7,7 @@ use Rattle.gcx_model.specs.Growth.{ends, has_root, may_all, may_come, may_come_a
 use Rattle.gcx_model.specs.Members.{In}
 use Rattle.gcx_model.specs.Placed.{Placed}
 use Rattle.gcx_model.specs.Points.{actions}
-use Rattle.gcx_model.specs.Tree.{Node, Root, Under, serial_of, Tree, Token, Start, Chars, End, opening, grow, grow_all, is_open_at}
+use Rattle.gcx_model.specs.Tree.{Node, Root, Under, serial_of, Tree, TreeToken, Start, Chars, End, opening, grow, grow_all, is_open_at}
 use Rattle.tree_laws.proofs.Growing.{may_all-append}
 use Rattle.tree_laws.proofs.Lists.{filter_same}
 use Rattle.tree_laws.proofs.Matches.{Numbered-high}
@@ -22,7 +22,7 @@ use Rattle.trace_check.specs.declared.timed.Timed.{Timed}
 -- ---- the clock
 
 -- a clock that tells the same of the nodes
-same_clock : (c d : Clock) (ts : List Token) (C : Tree) (most : ℕ) → ((n : Node) → In n C.nodes → d.opened (serial_of n) ≡ c.opened (serial_of n))
+same_clock : (c d : Clock) (ts : List TreeToken) (C : Tree) (most : ℕ) → ((n : Node) → In n C.nodes → d.opened (serial_of n) ≡ c.opened (serial_of n))
     → ((n : Node) → In n C.nodes → d.closed (serial_of n) ≡ c.closed (serial_of n)) → IsClock c ts C most → IsClock d ts C most
 same_clock c d ts C most o e k = record {
   grown = k.grown;
@@ -34,7 +34,7 @@ same_clock c d ts C most o e k = record {
   value = λ j l n i q. k.value j l n i (omega (arith, q, e n i));
 }
 
-pub clocked : (ts : List Token) (t : Timed) → HasTaken ts t → t.tree.at ≡ None → IsClock (clock_in t) ts t.tree (length ts)
+pub clocked : (ts : List TreeToken) (t : Timed) → HasTaken ts t → t.tree.at ≡ None → IsClock (clock_in t) ts t.tree (length ts)
 clocked ts t h shut =
     let none : (grow_all ts opening).at ≡ None = sym (ap (λ (P : Tree). P.at) h.tree_is) ∙ shut in
     let k : IsClock (clock_of ts) ts t.tree (length ts) = subst (λ (P : Tree). IsClock (clock_of ts) ts P (length ts)) (sym h.tree_is) (the_clock ts none) in
@@ -44,21 +44,21 @@ clocked ts t h shut =
 
 -- ---- each token was taken by an open node
 
-abbrev AllOpen : List Token → Tree → Type 0
+abbrev AllOpen : List TreeToken → Tree → Type 0
 AllOpen [] P = Unit {0}
 AllOpen (t ∷ ts) P = (P.at ≡ None → ⊥) × AllOpen ts (grow t P)
 
-pub at_most_one : (o : Option Node) (t : Token) → length (fed_at o t) ≤ 1
+pub at_most_one : (o : Option Node) (t : TreeToken) → length (fed_at o t) ≤ 1
 at_most_one None t = omega arith
 at_most_one (Some p) (Start name) = omega arith
 at_most_one (Some p) (Chars b) = omega arith
 at_most_one (Some p) End = omega arith
 
-pub fed_few : (ts : List Token) (P : Tree) → length (fed_all ts P) ≤ length ts
+pub fed_few : (ts : List TreeToken) (P : Tree) → length (fed_all ts P) ≤ length ts
 fed_few [] P = omega arith
 fed_few (t ∷ ts) P = let a = at_most_one P.at t in let b = fed_few ts (grow t P) in let e = length-append (fed_at P.at t) (fed_all ts (grow t P)) in omega (arith, a, b, e)
 
-all_open : (ts : List Token) (P : Tree) → length (fed_all ts P) ≡ length ts → AllOpen ts P
+all_open : (ts : List TreeToken) (P : Tree) → length (fed_all ts P) ≡ length ts → AllOpen ts P
 all_open [] P e = tt
 all_open (t ∷ ts) P e =
     let a = at_most_one P.at t in
@@ -75,11 +75,11 @@ root_stays [] ys h = absurd (cc)
 root_stays (x ∷ []) ys h = absurd (cc)
 root_stays (x ∷ (y ∷ xs)) ys h = refl
 
-has_root_all : (ts : List Token) (P : Tree) → has_root P.nodes ≡ true → has_root (grow_all ts P).nodes ≡ true
+has_root_all : (ts : List TreeToken) (P : Tree) → has_root P.nodes ≡ true → has_root (grow_all ts P).nodes ≡ true
 has_root_all ts P h = let m = more_nodes ts P in ap has_root m.1 ∙ root_stays P.nodes m.0 h
 
 -- the first token opens the root
-first_root : (t : Token) → may_come t opening ≡ true → has_root (grow t opening).nodes ≡ true
+first_root : (t : TreeToken) → may_come t opening ≡ true → has_root (grow t opening).nodes ≡ true
 first_root (Start name) m = refl
 first_root (Chars b) m = absurd (cc)
 first_root End m = absurd (cc)
@@ -96,16 +96,16 @@ ends_come (suc n) P h o = and_both (may_come End P) (may_all (ends n) (grow End 
     here (Some Root) e = ap (λ (q : Option Node). may_come_at q End P.nodes) e ∙ h
     here (Some (Under q s k)) e = ap (λ (x : Option Node). may_come_at x End P.nodes) e
 
-open_behind : (ts us : List Token) (P : Tree) → AllOpen (ts ++ us) P → AllOpen us (grow_all ts P)
+open_behind : (ts us : List TreeToken) (P : Tree) → AllOpen (ts ++ us) P → AllOpen us (grow_all ts P)
 open_behind [] us P o = o
 open_behind (t ∷ ts) us P o = open_behind ts us (grow t P) o.1
 
-all_come : (t : Token) (ts : List Token) (d : Timed) → may_all (t ∷ ts) opening ≡ true → (c : HasClosed (t ∷ ts) d) → may_all ((t ∷ ts) ++ c.closing) opening ≡ true
+all_come : (t : TreeToken) (ts : List TreeToken) (d : Timed) → may_all (t ∷ ts) opening ≡ true → (c : HasClosed (t ∷ ts) d) → may_all ((t ∷ ts) ++ c.closing) opening ≡ true
 all_come t ts d may c =
     let whole : AllOpen ((t ∷ ts) ++ c.closing) opening = all_open ((t ∷ ts) ++ c.closing) opening (sym (ap length c.taken.fed_is) ∙ c.taken.counted) in
-    let behind : AllOpen (ends (length c.closing)) (grow_all (t ∷ ts) opening) = subst (λ (us : List Token). AllOpen us (grow_all (t ∷ ts) opening)) c.ends_are (open_behind (t ∷ ts) c.closing opening whole) in
+    let behind : AllOpen (ends (length c.closing)) (grow_all (t ∷ ts) opening) = subst (λ (us : List TreeToken). AllOpen us (grow_all (t ∷ ts) opening)) c.ends_are (open_behind (t ∷ ts) c.closing opening whole) in
     let rooted : has_root (grow_all (t ∷ ts) opening).nodes ≡ true = has_root_all ts (grow t opening) (first_root t (left (may_come t opening) (may_all ts (grow t opening)) may)) in
-    may_all-append (t ∷ ts) c.closing opening may (subst (λ (us : List Token). may_all us (grow_all (t ∷ ts) opening) ≡ true) (sym c.ends_are) (ends_come (length c.closing) (grow_all (t ∷ ts) opening) rooted behind))
+    may_all-append (t ∷ ts) c.closing opening may (subst (λ (us : List TreeToken). may_all us (grow_all (t ∷ ts) opening) ≡ true) (sym c.ends_are) (ends_come (length c.closing) (grow_all (t ∷ ts) opening) rooted behind))
   where
     left : (x y : Bool) → (x && y) ≡ true → x ≡ true
     left true y e = refl
@@ -120,20 +120,20 @@ one_end (suc zero) o e = refl
 one_end (suc (suc n)) o e = absurd (o.1.0 refl)
 
 -- the text told by the times of a run is its trace
-pub told_is_trace : (core : BodyTree) → Good core → (plan : PlanTree) → Placed core plan → (ts : List Token) (d : Timed) → may_all ts opening ≡ true → HasClosed ts d
+pub told_is_trace : (core : BodyTree) → Good core → (plan : PlanTree) → Placed core plan → (ts : List TreeToken) (d : Timed) → may_all ts opening ≡ true → HasClosed ts d
     → trace_lines plan ts ≡ told_by_times plan (clock_in d) d.tree (timed_acts (clock_in d) d.tree plan) (actions plan d.tree) ts
 told_is_trace core good plan placed [] d may c =
     let whole : AllOpen c.closing opening = all_open c.closing opening (sym (ap length c.taken.fed_is) ∙ c.taken.counted) in
     let none : (grow_all c.closing opening).at ≡ None = sym (ap (λ (P : Tree). P.at) c.taken.tree_is) ∙ c.shut in
-    let one : length c.closing ≡ 1 = one_end (length c.closing) (subst (λ (us : List Token). AllOpen us opening) c.ends_are whole) (subst (λ (us : List Token). (grow_all us opening).at ≡ None) c.ends_are none) in
+    let one : length c.closing ≡ 1 = one_end (length c.closing) (subst (λ (us : List TreeToken). AllOpen us opening) c.ends_are whole) (subst (λ (us : List TreeToken). (grow_all us opening).at ≡ None) c.ends_are none) in
     let is : c.closing ≡ End ∷ [] = c.ends_are ∙ ap ends one in
-    let tree : d.tree ≡ grow End opening = c.taken.tree_is ∙ ap (λ (us : List Token). grow_all us opening) is in
+    let tree : d.tree ≡ grow End opening = c.taken.tree_is ∙ ap (λ (us : List TreeToken). grow_all us opening) is in
     let k : IsClock (clock_in d) (End ∷ []) (grow End opening) 1 =
-    subst (λ (P : Tree). IsClock (clock_in d) (End ∷ []) P 1) tree (subst (λ (us : List Token). IsClock (clock_in d) us d.tree (length us)) is (clocked c.closing d c.taken c.shut)) in
+    subst (λ (P : Tree). IsClock (clock_in d) (End ∷ []) P 1) tree (subst (λ (us : List TreeToken). IsClock (clock_in d) us d.tree (length us)) is (clocked c.closing d c.taken c.shut)) in
     trace_before_tokens plan (actions plan d.tree) (clock_in d) k
     ∙ ap (λ (P : Tree). told_by_times plan (clock_in d) P (timed_acts (clock_in d) P plan) (actions plan d.tree) []) (sym tree)
 told_is_trace core good plan placed (t ∷ ts) d may c =
-    let us : List Token = (t ∷ ts) ++ c.closing in
+    let us : List TreeToken = (t ∷ ts) ++ c.closing in
     let come = all_come t ts d may c in
     let none : (grow_all us opening).at ≡ None = sym (ap (λ (P : Tree). P.at) c.taken.tree_is) ∙ c.shut in
     let k : IsClock (clock_in d) us (grow_all us opening) (length us) = subst (λ (P : Tree). IsClock (clock_in d) us P (length us)) c.taken.tree_is (clocked us d c.taken c.shut) in

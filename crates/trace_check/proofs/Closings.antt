@@ -7,7 +7,7 @@ use Rattle.gcx_base.specs.declared.kind.Kind.TheVariants.{Element, Text}
 use Rattle.gcx_model.specs.Demand.{Left}
 use Rattle.gcx_model.specs.Members.{In}
 use Rattle.gcx_model.specs.Run.{Action}
-use Rattle.gcx_model.specs.Tree.{Node, Root, Under, serial_of, within, Tree, Token, Start, Chars, End, grow, grow_at, is_open_at, is_closed}
+use Rattle.gcx_model.specs.Tree.{Node, Root, Under, serial_of, within, Tree, TreeToken, Start, Chars, End, grow, grow_at, is_open_at, is_closed}
 use Rattle.tree_laws.proofs.Lists.{In-append, In-filter, In-kept, filter_none}
 use Rattle.tree_laws.proofs.Matches.{Grown, Numbered, Numbered-low}
 use Rattle.time_laws.specs.Leaving.{freed_of, is_closed_and_freed, left_where}
@@ -23,7 +23,7 @@ use Rattle.trace_check.proofs.Numbers.{at_in, number_of}
 -- ---- which node
 
 -- A node that is closed behind this token and wasn't there and closed before it is the token's.
-pub fed_closes : (t : Token) (P : Tree) (f : Fed) (n : Node) → fed_at P.at t ≡ f ∷ [] → In n (grow t P).nodes → is_open_at (grow t P).at (serial_of n) ≡ false
+pub fed_closes : (t : TreeToken) (P : Tree) (f : Fed) (n : Node) → fed_at P.at t ≡ f ∷ [] → In n (grow t P).nodes → is_open_at (grow t P).at (serial_of n) ≡ false
     → (In n P.nodes → is_open_at P.at (serial_of n) ≡ true) → serial_of n ≡ fed_node (length P.nodes) f
 fed_closes t P f n e there shut before = go P.at t refl f e there shut before
   where
@@ -33,7 +33,7 @@ fed_closes t P f n e there shut before = go P.at t refl f e there shut before
     no_fed : (b : Fed) → ◌≡◌ {A = List Fed} [] (b ∷ []) → ⊥
     no_fed b h = cc
 
-    behind : (o : Option Node) (t : Token) → Tree
+    behind : (o : Option Node) (t : TreeToken) → Tree
     behind o t = grow_at o t P
 
     or_right_false : (a b : Bool) → (a || b) ≡ false → b ≡ false
@@ -43,7 +43,7 @@ fed_closes t P f n e there shut before = go P.at t refl f e there shut before
     root_zero : 0 ≡ serial_of n → serial_of n ≡ serial_of Root
     root_zero h = sym h
 
-    go : (o : Option Node) (t : Token) → P.at ≡ o → (f : Fed) → fed_at o t ≡ f ∷ [] → In n (behind o t).nodes → is_open_at (behind o t).at (serial_of n) ≡ false
+    go : (o : Option Node) (t : TreeToken) → P.at ≡ o → (f : Fed) → fed_at o t ≡ f ∷ [] → In n (behind o t).nodes → is_open_at (behind o t).at (serial_of n) ≡ false
         → (In n P.nodes → is_open_at o (serial_of n) ≡ true) → serial_of n ≡ fed_node (length P.nodes) f
     go None t at f e there shut before = absurd (no_fed f e)
     go (Some p) (Start name) at f e there shut before = elim (In-append n P.nodes (Under p (length P.nodes) (Element name) ∷ []) there) [
@@ -64,7 +64,7 @@ fed_closes t P f n e there shut before = go P.at t refl f e there shut before
     ]
 
 -- By the clock: a node that is closed at the time of a token is the token's.
-pub closes_at : (c : Clock) (ts : List Token) (C : Tree) (most i : ℕ) → IsClock c ts C most → suc i ≤ most → (t : Token) → tree_at ts (suc i) ≡ grow t (tree_at ts i)
+pub closes_at : (c : Clock) (ts : List TreeToken) (C : Tree) (most i : ℕ) → IsClock c ts C most → suc i ≤ most → (t : TreeToken) → tree_at ts (suc i) ≡ grow t (tree_at ts i)
     → (f : Fed) → fed_at (tree_at ts i).at t ≡ f ∷ [] → (n : Node) → In n C.nodes → c.opened (serial_of n) ≤ c.closed (serial_of n) → c.closed (serial_of n) ≡ suc i
     → serial_of n ≡ fed_node (length (tree_at ts i).nodes) f
 closes_at c ts C most i ck l t grown f e n here order at =

@@ -12,7 +12,7 @@ use Rattle.gcx_io.specs.Views.{SourceView}
 use Rattle.gcx_io.specs.Writing.{joined}
 use Rattle.run_words.proofs.Sourcing.{source_more, source_end, source_fault}
 use Rattle.run_words.specs.Reading.{IsShort, SourceGave}
-use Rattle.run_words.specs.Stops.{More, End, Fault, is_end}
+use Rattle.run_words.specs.Stops.{More, EndAnswered, FaultAnswered, is_end}
 use Rattle.time_laws.specs.Checking.{Yes, No, IsFront, Judges, LineEnds, fitted, line_ends}
 use Rattle.trace_check.specs.Judging.{IsInCommon, JudgesSource, StopsBy, answer_in}
 use Rattle.trace_check.specs.Telling.{Puts}
@@ -137,20 +137,20 @@ differs_here text a b c at n same buf h once some within size i less =
       );
     }
 
-no_more : End ≡ More → ⊥
+no_more : EndAnswered ≡ More → ⊥
 no_more e = cc
 
-stops_so : (r : Checked) (ps : List (List ℕ)) → StopsBy r [] End → StopsBy r ps End
+stops_so : (r : Checked) (ps : List (List ℕ)) → StopsBy r [] EndAnswered → StopsBy r ps EndAnswered
 stops_so (checked.Yes lines) ps s = s
 stops_so (checked.No line) ps s = s
 stops_so checked.ReadFault ps s = s
 stops_so checked.Memory ps s = absurd (no_more s.1)
 
 pub ends_here : {E : Type 0} (text : List ℕ) (a b c : SourceView) (at n : ℕ) (buf : List ℕ) (r : Checked) → HasCompared text a b at → ReadsSource {E = E} b c (Ok n) buf
-    → n ≡ 0 → length buf ≡ 65536 → StopsBy r [] End → Judges text (answer_in r) (take at text) true → JudgesSource text r a c
+    → n ≡ 0 → length buf ≡ 65536 → StopsBy r [] EndAnswered → Judges text (answer_in r) (take at text) true → JudgesSource text r a c
 ends_here text a b c at n buf r h once none size stops judged = record {
   pieces = h.pieces;
-  stop = End;
+  stop = EndAnswered;
   gave = source_end a b c h.pieces n buf h.gave once none size;
   short = h.short;
   earlier = h.earlier;
@@ -161,7 +161,7 @@ ends_here text a b c at n buf r h once none size stops judged = record {
 pub fails_here : {E : Type 0} (text : List ℕ) (a b c : SourceView) (at : ℕ) (e : E) (buf : List ℕ) → HasCompared text a b at → ReadsSource {E = E} b c (Err e) buf → JudgesSource text checked.ReadFault a c
 fails_here text a b c at e buf h once = record {
   pieces = h.pieces;
-  stop = Fault;
+  stop = FaultAnswered;
   gave = source_fault a b c h.pieces e buf h.gave once;
   short = h.short;
   earlier = h.earlier;

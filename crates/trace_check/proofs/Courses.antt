@@ -15,32 +15,32 @@ use Rattle.gcx_model.specs.Truth.{Env}
 use Rattle.gcx_model.specs.Written.{start_tag, end_tag}
 use Rattle.tree_laws.proofs.Lists.{any_in}
 use Rattle.tree_laws.proofs.Matches.{Grown, Numbered-high, Matches-in}
-use Rattle.time_laws.specs.Times.{Clock, TimedAct, Course, one_act, none_till, then_on, rounds, copy_course_with, copy_course, item_course, course}
+use Rattle.time_laws.specs.Times.{Clock, TimedAction, TimedCourse, one_act, none_till, then_on, rounds, copy_course_with, copy_course, item_course, course}
 use Rattle.trace_check.specs.Acting.{whole_copy, copies_below}
 
-pub same_course : (a b : Course) → a.acts ≡ b.acts → a.till ≡ b.till → a ≡ b
+pub same_course : (a b : TimedCourse) → a.acts ≡ b.acts → a.till ≡ b.till → a ≡ b
 same_course a b e f = two a.acts b.acts a.till b.till e f
   where
-    two : (xs ys : List TimedAct) (t u : ℕ) → xs ≡ ys → t ≡ u → let x : Course = record { acts = xs; till = t } in let y : Course = record { acts = ys; till = u } in x ≡ y
+    two : (xs ys : List TimedAction) (t u : ℕ) → xs ≡ ys → t ≡ u → let x : TimedCourse = record { acts = xs; till = t } in let y : TimedCourse = record { acts = ys; till = u } in x ≡ y
     two xs ys t u e f = rw (e, f) refl
 
 -- nothing before, and nothing behind
-pub none_then : (t : ℕ) (f : ℕ → Course) → then_on (none_till t) f ≡ f t
+pub none_then : (t : ℕ) (f : ℕ → TimedCourse) → then_on (none_till t) f ≡ f t
 none_then t f = same_course (then_on (none_till t) f) (f t) refl refl
 
-pub then_none : (a : Course) → then_on a none_till ≡ a
+pub then_none : (a : TimedCourse) → then_on a none_till ≡ a
 then_none a = same_course (then_on a none_till) a (append-nil a.acts) refl
 
-pub then_assoc : (a : Course) (f g : ℕ → Course) → then_on (then_on a f) g ≡ then_on a (λ t. then_on (f t) g)
+pub then_assoc : (a : TimedCourse) (f g : ℕ → TimedCourse) → then_on (then_on a f) g ≡ then_on a (λ t. then_on (f t) g)
 then_assoc a f g = same_course (then_on (then_on a f) g) (then_on a (λ t. then_on (f t) g)) (append_assoc a.acts (f a.till).acts (g (f a.till).till).acts) refl
 
-same_then : (a : Course) (f g : ℕ → Course) → ((t : ℕ) → f t ≡ g t) → then_on a f ≡ then_on a g
-same_then a f g h = ap (λ (c : Course). record { acts = a.acts ++ c.acts; till = c.till }) (h a.till)
+same_then : (a : TimedCourse) (f g : ℕ → TimedCourse) → ((t : ℕ) → f t ≡ g t) → then_on a f ≡ then_on a g
+same_then a f g h = ap (λ (c : TimedCourse). record { acts = a.acts ++ c.acts; till = c.till }) (h a.till)
 
 -- ---- loops
 
 -- a turn more
-pub rounds_push : (c : Clock) (f : Node → ℕ → Course) (ns : List Node) (n : Node) (t : ℕ)
+pub rounds_push : (c : Clock) (f : Node → ℕ → TimedCourse) (ns : List Node) (n : Node) (t : ℕ)
     → rounds c f (ns ++ n ∷ []) 0 t ≡ then_on (rounds c f ns 0 t) (λ u. f n (max u (c.opened (serial_of n))))
 rounds_push c f [] n t =
     let z : max (max t 0) (c.opened (serial_of n)) ≡ max t (c.opened (serial_of n)) = omega arith in
@@ -52,7 +52,7 @@ rounds_push c f (m ∷ ns) n t =
     ∙ sym (then_assoc (f m (max t (c.opened (serial_of m)))) (rounds c f ns 0) (λ v. f n (max v (c.opened (serial_of n)))))
 
 -- the loop is over no sooner than this
-pub rounds_over : (c : Clock) (f : Node → ℕ → Course) (ns : List Node) (over t : ℕ)
+pub rounds_over : (c : Clock) (f : Node → ℕ → TimedCourse) (ns : List Node) (over t : ℕ)
     → rounds c f ns over t ≡ then_on (rounds c f ns 0 t) (λ u. none_till (max u over))
 rounds_over c f [] over t =
     let z : max t over ≡ max (max t 0) over = omega arith in
@@ -91,17 +91,17 @@ child_later C w n m i h =
     up (Under p s kd) j (inl e) k = subst (λ (z : Node). In z C.nodes) e k
     up (Under p s kd) j (inr q) k = up p j q (w.upward p s kd k)
 
-same_rounds : (c : Clock) (f g : Node → ℕ → Course) (ns : List Node) (over : ℕ) → ((n : Node) → In n ns → (u : ℕ) → f n u ≡ g n u) → (t : ℕ) → rounds c f ns over t ≡ rounds c g ns over t
+same_rounds : (c : Clock) (f g : Node → ℕ → TimedCourse) (ns : List Node) (over : ℕ) → ((n : Node) → In n ns → (u : ℕ) → f n u ≡ g n u) → (t : ℕ) → rounds c f ns over t ≡ rounds c g ns over t
 same_rounds c f g [] over h t = refl
 same_rounds c f g (n ∷ ns) over h t =
-    ap (λ (a : Course). then_on a (rounds c f ns over)) (h n (inl refl) (max t (c.opened (serial_of n))))
+    ap (λ (a : TimedCourse). then_on a (rounds c f ns over)) (h n (inl refl) (max t (c.opened (serial_of n))))
     ∙ same_then (g n (max t (c.opened (serial_of n)))) (rounds c f ns over) (rounds c g ns over) (λ u. same_rounds c f g ns over (λ m i. h m (inr i)) u)
 
-same_copy : (k : Kind) (f g : ℕ → Course) → ((u : ℕ) → f u ≡ g u) → (t : ℕ) → copy_course_with k f t ≡ copy_course_with k g t
+same_copy : (k : Kind) (f g : ℕ → TimedCourse) → ((u : ℕ) → f u ≡ g u) → (t : ℕ) → copy_course_with k f t ≡ copy_course_with k g t
 same_copy Document f g h t = h t
 same_copy (Element name) f g h t =
     same_then (one_act t (Wrote (start_tag name))) (λ u. then_on (f u) (λ v. one_act v (Wrote (end_tag name)))) (λ u. then_on (g u) (λ v. one_act v (Wrote (end_tag name))))
-    (λ u. ap (λ (a : Course). then_on a (λ v. one_act v (Wrote (end_tag name)))) (h u))
+    (λ u. ap (λ (a : TimedCourse). then_on a (λ v. one_act v (Wrote (end_tag name)))) (h u))
 same_copy (Text b) f g h t = refl
 
 -- as deep as there are nodes behind is deep enough

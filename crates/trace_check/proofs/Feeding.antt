@@ -7,7 +7,7 @@ use Rattle.gcx_model.specs.Demand.{Line, Opened, feed_line, line_kind, opened_li
 use Rattle.gcx_model.specs.Held.{given, given_row, on_row, path_of, roles_given}
 use Rattle.gcx_model.specs.Members.{In, count}
 use Rattle.gcx_model.specs.Placed.{row_at}
-use Rattle.gcx_model.specs.Tree.{Node, Root, Under, serial_of, kind_of, Tree, Token, Start, Chars, End, opening, grow, grow_all, grow_at}
+use Rattle.gcx_model.specs.Tree.{Node, Root, Under, serial_of, kind_of, Tree, TreeToken, Start, Chars, End, opening, grow, grow_all, grow_at}
 use Rattle.placed_laws.proofs.Stays.{gives_same}
 use Rattle.tree_laws.proofs.Fed.{nodes_stay}
 use Rattle.tree_laws.proofs.Lists.{filter_same, In-right}
@@ -22,7 +22,7 @@ use Rattle.trace_check.specs.declared.timed.Fed.TheVariants as fed
 use Rattle.trace_check.proofs.Numbers.{in_tree, node_by}
 
 -- what a node was given stays
-given_on : (us : List Token) (plan : PlanTree) (P : Tree) → Grown P → (n : Node) (r : ℕ) → In n P.nodes → given plan P n r ≡ given plan (grow_all us P) n r
+given_on : (us : List TreeToken) (plan : PlanTree) (P : Tree) → Grown P → (n : Node) (r : ℕ) → In n P.nodes → given plan P n r ≡ given plan (grow_all us P) n r
 given_on [] plan P w n r i = refl
 given_on (t ∷ us) plan P w n r i = sym (once (row_at plan.roles r)) ∙ given_on us plan (grow t P) (Grown-grow t P w) n r (nodes_stay (t ∷ []) P n i)
   where
@@ -31,7 +31,7 @@ given_on (t ∷ us) plan P w n r i = sym (once (row_at plan.roles r)) ∙ given_
     once (Some row) = gives_same t P w 0 (path_of plan row.var) row.tail row.kind n i
 
 -- the roles given to a node are those of the whole tree
-given_later : (us : List Token) (plan : PlanTree) (P : Tree) → Grown P → (n : Node) → In n P.nodes → roles_given plan P n ≡ roles_given plan (grow_all us P) n
+given_later : (us : List TreeToken) (plan : PlanTree) (P : Tree) → Grown P → (n : Node) → In n P.nodes → roles_given plan P n ≡ roles_given plan (grow_all us P) n
 given_later us plan P w n i = filter_same (given plan P n) (given plan (grow_all us P) n) (count 0 (length plan.roles)) (λ r k. given_on us plan P w n r i)
 
 -- the line of a node is that of its number
@@ -44,16 +44,16 @@ line_by plan c w n i =
     ∙ ap (λ (m : Node). Opened (serial_of n) (line_kind (kind_of m)) (get_or (given_all plan c.timed.tree) (serial_of n) [])) (sym here)
 
 -- a node's line is that of the whole tree, which more tokens made
-opened_later : (plan : PlanTree) (c : Course) → Grown c.timed.tree → (us : List Token) (Q : Tree) → Grown Q → c.timed.tree ≡ grow_all us Q → (n : Node) → In n Q.nodes → opened_line plan Q n ≡ line_in plan c (serial_of n)
+opened_later : (plan : PlanTree) (c : Course) → Grown c.timed.tree → (us : List TreeToken) (Q : Tree) → Grown Q → c.timed.tree ≡ grow_all us Q → (n : Node) → In n Q.nodes → opened_line plan Q n ≡ line_in plan c (serial_of n)
 opened_later plan c w us Q v on n i =
     ap (λ (g : List ℕ). Opened (serial_of n) (line_kind (kind_of n)) g) (given_later us plan Q v n i ∙ ap (λ (P : Tree). roles_given plan P n) (sym on))
     ∙ line_by plan c w n (subst (λ (P : Tree). In n P.nodes) (sym on) (nodes_stay us Q n i))
 
 -- the line of the document node
-pub line_first : (plan : PlanTree) (c : Course) → Grown c.timed.tree → (us : List Token) → c.timed.tree ≡ grow_all us opening → opened_line plan opening Root ≡ line_in plan c 0
+pub line_first : (plan : PlanTree) (c : Course) → Grown c.timed.tree → (us : List TreeToken) → c.timed.tree ≡ grow_all us opening → opened_line plan opening Root ≡ line_in plan c 0
 line_first plan c w us on = opened_later plan c w us opening Grown-opening on Root (inl refl)
 
-module _ (plan : PlanTree) (c : Course) (w : Grown c.timed.tree) (P : Tree) (v : Grown P) (t : Token) (us : List Token) (on : c.timed.tree ≡ grow_all us (grow t P)) where
+module _ (plan : PlanTree) (c : Course) (w : Grown c.timed.tree) (P : Tree) (v : Grown P) (t : TreeToken) (us : List TreeToken) (on : c.timed.tree ≡ grow_all us (grow t P)) where
   opened : (n : Node) → In n (grow t P).nodes → opened_line plan (grow t P) n ∷ [] ≡ line_in plan c (serial_of n) ∷ []
   opened n i = ap (λ (l : Line). l ∷ []) (opened_later plan c w us (grow t P) (Grown-grow t P v) on n i)
 
@@ -66,16 +66,16 @@ module _ (plan : PlanTree) (c : Course) (w : Grown c.timed.tree) (P : Tree) (v :
       no_fed : (b : Fed) → ◌≡◌ {A = List Fed} [] (b ∷ []) → ⊥
       no_fed b h = cc
 
-      go : (o : Option Node) (s : Token) → P.at ≡ o → t ≡ s → fed_at o s ≡ f ∷ [] → feed_line plan s o P (grow t P) ≡ fed_told plan c (length P.nodes) f
+      go : (o : Option Node) (s : TreeToken) → P.at ≡ o → t ≡ s → fed_at o s ≡ f ∷ [] → feed_line plan s o P (grow t P) ≡ fed_told plan c (length P.nodes) f
       go None s at is e = absurd (no_fed f e)
       go (Some p) (Start name) at is e =
           let new : Node = Under p (length P.nodes) (Element name) in
           let nodes : (grow t P).nodes ≡ P.nodes ++ new ∷ []
-          = ap (λ (o : Option Node). (grow_at o t P).nodes) at ∙ ap (λ (x : Token). (grow_at (Some p) x P).nodes) is in
+          = ap (λ (o : Option Node). (grow_at o t P).nodes) at ∙ ap (λ (x : TreeToken). (grow_at (Some p) x P).nodes) is in
           opened new (subst (λ (l : List Node). In new l) (sym nodes) (In-right new P.nodes (new ∷ []) (inl refl))) ∙ ap (fed_told plan c (length P.nodes)) (one fed.Opened f e)
       go (Some p) (Chars b) at is e =
           let new : Node = Under p (length P.nodes) (Text b) in
           let nodes : (grow t P).nodes ≡ P.nodes ++ new ∷ []
-          = ap (λ (o : Option Node). (grow_at o t P).nodes) at ∙ ap (λ (x : Token). (grow_at (Some p) x P).nodes) is in
+          = ap (λ (o : Option Node). (grow_at o t P).nodes) at ∙ ap (λ (x : TreeToken). (grow_at (Some p) x P).nodes) is in
           opened new (subst (λ (l : List Node). In new l) (sym nodes) (In-right new P.nodes (new ∷ []) (inl refl))) ∙ ap (fed_told plan c (length P.nodes)) (one fed.Opened f e)
       go (Some p) End at is e = ap (fed_told plan c (length P.nodes)) (one (fed.Closed (serial_of p)) f e)

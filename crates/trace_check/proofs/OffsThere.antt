@@ -4,7 +4,7 @@ use Rattle.gcx_base.specs.declared.kind.Kind.{Kind}
 use Rattle.gcx_base.specs.declared.kind.Kind.TheVariants.{Document, Element, Text}
 use Rattle.base_laws.proofs.Members.{from_map, in_map}
 use Rattle.gcx_model.specs.Answer.{children}
-use Rattle.gcx_model.specs.Core.{ItemTree, BodyTree, OffTree, PlanTree, Write, Copy, For, If, Off, Nil, Then}
+use Rattle.gcx_model.specs.Core.{ItemTree, BodyTree, OffTree, PlanTree, Write, Copy, For, If, SignOff, Nil, Then}
 use Rattle.gcx_model.specs.Members.{In}
 use Rattle.gcx_model.specs.Paths.{matches}
 use Rattle.gcx_model.specs.Run.{Action, Wrote, Offed, env0}
@@ -13,7 +13,7 @@ use Rattle.gcx_model.specs.Truth.{Env, bind_var}
 use Rattle.gcx_model.specs.Written.{start_tag, end_tag}
 use Rattle.tree_laws.proofs.Lists.{In-append}
 use Rattle.tree_laws.proofs.Matches.{Grown, Matches-in}
-use Rattle.time_laws.specs.Times.{Clock, TimedAct, Course, one_act, then_on, rounds, settled, copy_course_with, copy_course, item_course, course, timed_acts}
+use Rattle.time_laws.specs.Times.{Clock, TimedAction, TimedCourse, one_act, then_on, rounds, settled, copy_course_with, copy_course, item_course, course, timed_acts}
 use Rattle.trace_check.specs.Acting.{Adds, ShownAct, Signed, action_shown, seen, shown}
 use Rattle.trace_check.specs.Scopes.{env_of}
 use Rattle.trace_check.specs.Wanting.{OffsAreThere}
@@ -27,25 +27,25 @@ env_none C w = λ i x. root_first C w i
 
 module _ (most : ℕ) where
   -- each of the statements has a node with a number below this one
-  abbrev AreBelow : List TimedAct → Type 0
-  AreBelow acts = (a : TimedAct) (o : OffTree) (m : ℕ) → In a acts → a.act ≡ Offed o m → m < most
+  abbrev AreBelow : List TimedAction → Type 0
+  AreBelow acts = (a : TimedAction) (o : OffTree) (m : ℕ) → In a acts → a.act ≡ Offed o m → m < most
 
   wrote_below : (t : ℕ) (b : List ℕ) → AreBelow (one_act t (Wrote b)).acts
-  wrote_below t b a o m (inl p) e = let q : Wrote b ≡ Offed o m = ap (λ (x : TimedAct). x.act) p ∙ e in absurd (cc)
+  wrote_below t b a o m (inl p) e = let q : Wrote b ≡ Offed o m = ap (λ (x : TimedAction). x.act) p ∙ e in absurd (cc)
   wrote_below t b a o m (inr i) e = absurd i
 
-  then_below : (a : Course) (f : ℕ → Course) → AreBelow a.acts → ((u : ℕ) → AreBelow (f u).acts) → AreBelow (then_on a f).acts
+  then_below : (a : TimedCourse) (f : ℕ → TimedCourse) → AreBelow a.acts → ((u : ℕ) → AreBelow (f u).acts) → AreBelow (then_on a f).acts
   then_below a f h g x o m i e = elim (In-append x a.acts (f a.till).acts i) [
     | inl j ↦ h x o m j e
     | inr j ↦ g a.till x o m j e
   ]
 
-  rounds_below : (c : Clock) (f : Node → ℕ → Course) (ns : List Node) (over : ℕ) → ((n : Node) → In n ns → (u : ℕ) → AreBelow (f n u).acts) → (t : ℕ) → AreBelow (rounds c f ns over t).acts
+  rounds_below : (c : Clock) (f : Node → ℕ → TimedCourse) (ns : List Node) (over : ℕ) → ((n : Node) → In n ns → (u : ℕ) → AreBelow (f n u).acts) → (t : ℕ) → AreBelow (rounds c f ns over t).acts
   rounds_below c f [] over h t = λ a o m i e. absurd i
   rounds_below c f (n ∷ ns) over h t =
       then_below (f n (max t (c.opened (serial_of n)))) (rounds c f ns over) (h n (inl refl) (max t (c.opened (serial_of n)))) (rounds_below c f ns over (λ m i. h m (inr i)))
 
-  copy_with_below : (k : Kind) (f : ℕ → Course) → ((u : ℕ) → AreBelow (f u).acts) → (t : ℕ) → AreBelow (copy_course_with k f t).acts
+  copy_with_below : (k : Kind) (f : ℕ → TimedCourse) → ((u : ℕ) → AreBelow (f u).acts) → (t : ℕ) → AreBelow (copy_course_with k f t).acts
   copy_with_below Document f h t = h t
   copy_with_below (Element name) f h t =
       then_below (one_act t (Wrote (start_tag name))) (λ u. then_on (f u) (λ v. one_act v (Wrote (end_tag name)))) (wrote_below t (start_tag name))
@@ -69,13 +69,13 @@ module _ (c : Clock) (C : Tree) (w : Grown C) where
       go true = i
       go false = h y
 
-  either_below : (t : Bool) (a b : Course) → AreBelow (length C.nodes) a.acts → AreBelow (length C.nodes) b.acts → AreBelow (length C.nodes) (cond t a b).acts
+  either_below : (t : Bool) (a b : TimedCourse) → AreBelow (length C.nodes) a.acts → AreBelow (length C.nodes) b.acts → AreBelow (length C.nodes) (cond t a b).acts
   either_below true a b h g = h
   either_below false a b h g = g
 
   off_below : (o : OffTree) (env : Env) → IsThere env → (t : ℕ) → AreBelow (length C.nodes) (one_act t (Offed o (serial_of (env o.base)))).acts
   off_below o env h t a p m (inl q) e =
-      let same : Offed o (serial_of (env o.base)) ≡ Offed p m = ap (λ (x : TimedAct). x.act) q ∙ e in
+      let same : Offed o (serial_of (env o.base)) ≡ Offed p m = ap (λ (x : TimedAction). x.act) q ∙ e in
       let number : serial_of (env o.base) ≡ m = cc in
       let low = in_tree C w (env o.base) (h o.base) in
       omega (arith, low, number)
@@ -91,13 +91,13 @@ module _ (c : Clock) (C : Tree) (w : Grown C) where
     item_below (If k a b) env h t =
         either_below (settled c C k env).truth (course c C a env (max t (settled c C k env).at)) (course c C b env (max t (settled c C k env).at))
         (body_below a env h (max t (settled c C k env).at)) (body_below b env h (max t (settled c C k env).at))
-    item_below (Off o) env h t = off_below o env h t
+    item_below (SignOff o) env h t = off_below o env h t
 
     body_below : (d : BodyTree) (env : Env) → IsThere env → (t : ℕ) → AreBelow (length C.nodes) (course c C d env t).acts
     body_below Nil env h t = λ a o m i e. absurd i
     body_below (Then i d) env h t = then_below (length C.nodes) (item_course c C i env t) (course c C d env) (item_below i env h t) (body_below d env h)
 
-  shown_below : (x : TimedAct) (off : OffTree) (node : ℕ) → ((o : OffTree) (m : ℕ) → x.act ≡ Offed o m → m < length C.nodes) → action_shown x.act ≡ Signed off node → node < length C.nodes
+  shown_below : (x : TimedAction) (off : OffTree) (node : ℕ) → ((o : OffTree) (m : ℕ) → x.act ≡ Offed o m → m < length C.nodes) → action_shown x.act ≡ Signed off node → node < length C.nodes
   shown_below x off node h e = go x.act refl e
     where
       go : (a : Action) → x.act ≡ a → action_shown a ≡ Signed off node → node < length C.nodes

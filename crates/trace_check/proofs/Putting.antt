@@ -7,7 +7,7 @@ use Rattle.std.proofs.lemmas.List.{length-map, take_all}
 use Rattle.gcx_base.specs.declared.ids.Role.{Role}
 use Rattle.gcx_model.specs.Core.{PlanTree}
 use Rattle.gcx_model.specs.Demand.{Line, Left, Opened, line_kind, line_text}
-use Rattle.gcx_model.specs.Tree.{Token, kind_of}
+use Rattle.gcx_model.specs.Tree.{TreeToken, kind_of}
 use Rattle.time_laws.specs.Leaving.{count_offs, is_freed, left_where}
 use Rattle.time_laws.specs.Times.{Clock}
 use Rattle.doc_tree.specs.Rows.{node_at}
@@ -40,7 +40,7 @@ given_entry (g ∷ gs) zero = refl
 given_entry (g ∷ gs) (suc n) = given_entry gs n
 
 -- the line of a node, as its kind and its roles are kept
-pub opened_is : (plan : PlanTree) (ts : List Token) (c : Course) → IsCourse plan ts c → (n : ℕ) (kind : LineKind) (given : List Role)
+pub opened_is : (plan : PlanTree) (ts : List TreeToken) (c : Course) → IsCourse plan ts c → (n : ℕ) (kind : LineKind) (given : List Role)
     → kind_tree kind ≡ line_kind (kind_of (node_at c.timed.tree.nodes n)) → given ≡ get_or c.given.items n [] → Opened n (kind_tree kind) (numbers_in given) ≡ line_in plan c n
 opened_is plan ts c is n kind given e f =
     ap (λ k. Opened n k (numbers_in given)) e
@@ -79,7 +79,7 @@ pub list_told : (p : ℕ → Bool) (xs : List ℕ) (i : ℕ) (old new : List ℕ
 list_told p xs i old new l h = subst (λ (ys : List ℕ). Puts old new (map Left (filter p ys))) (take_all i xs l) h
 
 -- they are those that the statement frees
-pub freed_put : (plan : PlanTree) (ts : List Token) (c : Course) → IsCourse plan ts c → (now number : ℕ) → number ≤ count_offs (acts_in plan c) → (l : Vec ℕ)
+pub freed_put : (plan : PlanTree) (ts : List TreeToken) (c : Course) → IsCourse plan ts c → (now number : ℕ) → number ≤ count_offs (acts_in plan c) → (l : Vec ℕ)
     → number < length c.leaving.freed.items → l ≡ get_or c.leaving.freed.items number l → (old new : List ℕ)
     → Puts old new (map Left (filter (λ n. leb ((clock_in c.timed).closed n) now) l.items))
     → Puts old new (left_where c.timed.tree (is_freed (clock_in c.timed) c.timed.tree (acts_in plan c) now number))
@@ -89,7 +89,7 @@ freed_put plan ts c is now number few l within at old new h =
     ∙ freed_told (clock_in c.timed) c.timed.tree (timed_grown ts c.timed is.timed) (acts_in plan c) c.leaving.until.items (lists_in c.leaving.freed.items) is.wanted now number few) h
 
 -- each number of a statement has a list
-pub freed_there : (plan : PlanTree) (ts : List Token) (c : Course) → IsCourse plan ts c → (number : ℕ) → number ≤ count_offs (acts_in plan c) → number < length c.leaving.freed.items
+pub freed_there : (plan : PlanTree) (ts : List TreeToken) (c : Course) → IsCourse plan ts c → (number : ℕ) → number ≤ count_offs (acts_in plan c) → number < length c.leaving.freed.items
 freed_there plan ts c is number few =
     let l = (freed_list c.timed.tree (acts_in plan c) c.leaving.until.items (lists_in c.leaving.freed.items) is.wanted number few).0 in
     let n = length-map c.leaving.freed.items (λ (v : Vec ℕ). v.items) in

@@ -4,7 +4,7 @@ use Rattle.std.specs.Global.{Vec}
 use Rattle.std.proofs.lemmas.List.{drop_all, drop_more, map-append, take_more}
 use Rattle.gcx_base.specs.declared.steps.Step.{Step}
 use Rattle.gcx_model.specs.CondView.{core_cond_tree, core_conds_of}
-use Rattle.gcx_model.specs.Core.{CondTree, OperandTree, Path, Str, Num, Always, Exists, Compare, Not, All, Any}
+use Rattle.gcx_model.specs.Core.{CondTree, OperandTree, Path, Str, Num, Always, Exists, Compare, Not, AllOf, AnyOf}
 use Rattle.gcx_model.specs.Paths.{matches}
 use Rattle.gcx_model.specs.Truth.{node_value}
 use Rattle.gcx_model.specs.Tree.{Node, serial_of, Tree}
@@ -14,7 +14,7 @@ use Rattle.gcx_model.specs.declared.cond.Cond.{Cond}
 use Rattle.gcx_model.specs.Paths.{value}
 use Rattle.tree_laws.proofs.Matches.{Grown}
 use Rattle.doc_tree.specs.Rows.{node_at}
-use Rattle.time_laws.specs.Times.{Clock, Settled, TimedValue, exists_settled, both_settled, compare_settled, earliest, either_settled, over_at, settled, settled_all, settled_any, timed_values}
+use Rattle.time_laws.specs.Times.{Clock, SettledTruth, TimedValue, exists_settled, both_settled, compare_settled, earliest, either_settled, over_at, settled, settled_all, settled_any, timed_values}
 use Rattle.trace_check.specs.Memoing.{IsAtom, left_in, right_in, side_in}
 use Rattle.trace_check.specs.Scopes.{env_of}
 use Rattle.trace_check.specs.Settling.{no_sooner, timed_in, value_at}
@@ -51,47 +51,47 @@ exists_none c (m ∷ ms) over e = absurd (cc)
 
 -- ---- connectives, from the left
 
-pub all_over : (at : ℕ) (k rest : Settled) → k.truth ≡ false → no_sooner at (both_settled k rest) ≡ record { at = max at k.at; truth = false }
+pub all_over : (at : ℕ) (k rest : SettledTruth) → k.truth ≡ false → no_sooner at (both_settled k rest) ≡ record { at = max at k.at; truth = false }
 all_over at k rest e = rw (e) refl
 
-pub any_over : (at : ℕ) (k rest : Settled) → k.truth ≡ true → no_sooner at (either_settled k rest) ≡ record { at = max at k.at; truth = true }
+pub any_over : (at : ℕ) (k rest : SettledTruth) → k.truth ≡ true → no_sooner at (either_settled k rest) ≡ record { at = max at k.at; truth = true }
 any_over at k rest e = rw (e) refl
 
 -- the members from an index on
 module _ (c : Clock) (C : Tree) (env : Env) (items : List Cond) (k : ℕ) where
-  abbrev alls : List Cond → Settled
+  abbrev alls : List Cond → SettledTruth
   alls l = settled_all c C (core_conds_of (map core_cond_tree l)) env
 
-  abbrev anys : List Cond → Settled
+  abbrev anys : List Cond → SettledTruth
   anys l = settled_any c C (core_conds_of (map core_cond_tree l)) env
 
   from_here : (i : Cond) → k < length items → i ≡ get_or items k i → drop k items ≡ i ∷ drop (k + 1) items
   from_here i l e = drop_more items k i l ∙ ap (λ (x : Cond). x ∷ drop (k + 1) items) (sym e)
 
-  pub all_ends : (i : Cond) (at : ℕ) (known whole : Settled) → k < length items → i ≡ get_or items k i → known ≡ settled c C (core_cond_tree i) env → known.truth ≡ false
-      → no_sooner at (alls (drop k items)) ≡ whole → (let s : Settled = record { at = max at known.at; truth = false } in s) ≡ whole
+  pub all_ends : (i : Cond) (at : ℕ) (known whole : SettledTruth) → k < length items → i ≡ get_or items k i → known ≡ settled c C (core_cond_tree i) env → known.truth ≡ false
+      → no_sooner at (alls (drop k items)) ≡ whole → (let s : SettledTruth = record { at = max at known.at; truth = false } in s) ≡ whole
   all_ends i at known whole l e same f h =
       sym (all_over at known (alls (drop (k + 1) items)) f)
-      ∙ (ap (λ (s : Settled). no_sooner at (both_settled s (alls (drop (k + 1) items)))) same
+      ∙ (ap (λ (s : SettledTruth). no_sooner at (both_settled s (alls (drop (k + 1) items)))) same
       ∙ (ap (λ (l : List Cond). no_sooner at (alls l)) (sym (from_here i l e)) ∙ h))
 
-  pub any_ends : (i : Cond) (at : ℕ) (known whole : Settled) → k < length items → i ≡ get_or items k i → known ≡ settled c C (core_cond_tree i) env → known.truth ≡ true
-      → no_sooner at (anys (drop k items)) ≡ whole → (let s : Settled = record { at = max at known.at; truth = true } in s) ≡ whole
+  pub any_ends : (i : Cond) (at : ℕ) (known whole : SettledTruth) → k < length items → i ≡ get_or items k i → known ≡ settled c C (core_cond_tree i) env → known.truth ≡ true
+      → no_sooner at (anys (drop k items)) ≡ whole → (let s : SettledTruth = record { at = max at known.at; truth = true } in s) ≡ whole
   any_ends i at known whole l e same f h =
       sym (any_over at known (anys (drop (k + 1) items)) f)
-      ∙ (ap (λ (s : Settled). no_sooner at (either_settled s (anys (drop (k + 1) items)))) same
+      ∙ (ap (λ (s : SettledTruth). no_sooner at (either_settled s (anys (drop (k + 1) items)))) same
       ∙ (ap (λ (l : List Cond). no_sooner at (anys l)) (sym (from_here i l e)) ∙ h))
 
   -- all of them were asked
-  pub all_done : (at : ℕ) (whole : Settled) → length items ≤ k → no_sooner at (alls (drop k items)) ≡ whole → (let s : Settled = record { at = at; truth = true } in s) ≡ whole
+  pub all_done : (at : ℕ) (whole : SettledTruth) → length items ≤ k → no_sooner at (alls (drop k items)) ≡ whole → (let s : SettledTruth = record { at = at; truth = true } in s) ≡ whole
   all_done at whole l h =
       let z : at ≡ max at 0 = omega arith in
-      ap (λ (x : ℕ). let s : Settled = record { at = x; truth = true } in s) z ∙ (ap (λ (l : List Cond). no_sooner at (alls l)) (sym (drop_all k items l)) ∙ h)
+      ap (λ (x : ℕ). let s : SettledTruth = record { at = x; truth = true } in s) z ∙ (ap (λ (l : List Cond). no_sooner at (alls l)) (sym (drop_all k items l)) ∙ h)
 
-  pub any_done : (at : ℕ) (whole : Settled) → length items ≤ k → no_sooner at (anys (drop k items)) ≡ whole → (let s : Settled = record { at = at; truth = false } in s) ≡ whole
+  pub any_done : (at : ℕ) (whole : SettledTruth) → length items ≤ k → no_sooner at (anys (drop k items)) ≡ whole → (let s : SettledTruth = record { at = at; truth = false } in s) ≡ whole
   any_done at whole l h =
       let z : at ≡ max at 0 = omega arith in
-      ap (λ (x : ℕ). let s : Settled = record { at = x; truth = false } in s) z ∙ (ap (λ (l : List Cond). no_sooner at (anys l)) (sym (drop_all k items l)) ∙ h)
+      ap (λ (x : ℕ). let s : SettledTruth = record { at = x; truth = false } in s) z ∙ (ap (λ (l : List Cond). no_sooner at (anys l)) (sym (drop_all k items l)) ∙ h)
 
 -- a condition without connectives depends on the nodes of its variables alone
 module _ (c : Clock) (C : Tree) (bs cs : List Binding) where
@@ -114,5 +114,5 @@ module _ (c : Clock) (C : Tree) (bs cs : List Binding) where
       ∙ (ap (λ (x : ℕ). compare_settled (earliest (compare rel) (timed_values c C (env_of C cs) p) (timed_values c C (env_of C cs) q)) (max x (over_at c (env_of C bs) q))) (same_over p l)
       ∙ ap (λ (x : ℕ). compare_settled (earliest (compare rel) (timed_values c C (env_of C cs) p) (timed_values c C (env_of C cs) q)) (max (over_at c (env_of C cs) p) x)) (same_over q r)))
   same_sides (Not k) a l r = absurd a
-  same_sides (All ks) a l r = absurd a
-  same_sides (Any ks) a l r = absurd a
+  same_sides (AllOf ks) a l r = absurd a
+  same_sides (AnyOf ks) a l r = absurd a

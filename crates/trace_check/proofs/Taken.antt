@@ -3,7 +3,7 @@ use Rattle.std.proofs.Common.{◌≡◌, ◌⊎◌, ℕ, suc, ◌+◌, ◌<◌, 
 use Rattle.std.proofs.lemmas.Bool.{lt-ltb, le-ltb, cases_lt, cases_eq, ne_eqb, eq-eqb, and_right, true≢false}
 use Rattle.std.proofs.lemmas.List.{get_or_append_left, get_or_push, get_or-set_same, get_or-set_other, length_push, length-set}
 use Rattle.gcx_base.specs.declared.kind.Kind.TheVariants.{Element, Text}
-use Rattle.gcx_model.specs.Tree.{Node, Root, Under, serial_of, within, Tree, Token, Start, Chars, End, opening, grow, grow_at, grow_all, is_open_at}
+use Rattle.gcx_model.specs.Tree.{Node, Root, Under, serial_of, within, Tree, TreeToken, Start, Chars, End, opening, grow, grow_at, grow_all, is_open_at}
 use Rattle.tree_laws.proofs.Freeze.{within_self}
 use Rattle.tree_laws.proofs.Growing.{grow_all-append}
 use Rattle.tree_laws.proofs.Matches.{Grown, Grown-all, Grown-opening, Numbered-high}
@@ -17,22 +17,22 @@ use Rattle.trace_check.proofs.Numbers.{number_of}
 use Rattle.trace_check.proofs.Pushed.{opened_push, closed_push, fed_push}
 
 -- a node that is told is told the same behind one token more
-kept_opened : (ts : List Token) (t : Token) (n : ℕ) → n < length (grow_all ts opening).nodes → opened_from (ts ++ t ∷ []) opening 0 n ≡ opened_from ts opening 0 n
+kept_opened : (ts : List TreeToken) (t : TreeToken) (n : ℕ) → n < length (grow_all ts opening).nodes → opened_from (ts ++ t ∷ []) opening 0 n ≡ opened_from ts opening 0 n
 kept_opened ts t n l = opened_push ts t opening 0 n ∙ rw (lt-ltb n (length (grow_all ts opening).nodes) l) refl
 
-kept_closed : (ts : List Token) (t : Token) (n : ℕ) → n < length (grow_all ts opening).nodes → is_open_at (grow_all ts opening).at n ≡ false
+kept_closed : (ts : List TreeToken) (t : TreeToken) (n : ℕ) → n < length (grow_all ts opening).nodes → is_open_at (grow_all ts opening).at n ≡ false
     → closed_from (ts ++ t ∷ []) opening 0 n ≡ closed_from ts opening 0 n
 kept_closed ts t n l c = closed_push ts t opening 0 n ∙ rw (lt-ltb n (length (grow_all ts opening).nodes) l, c) refl
 
 -- a node that wasn't there, or was open, is told with this token
-new_opened : (ts : List Token) (t : Token) (n : ℕ) → length (grow_all ts opening).nodes ≤ n → opened_from (ts ++ t ∷ []) opening 0 n ≡ suc (length ts)
+new_opened : (ts : List TreeToken) (t : TreeToken) (n : ℕ) → length (grow_all ts opening).nodes ≤ n → opened_from (ts ++ t ∷ []) opening 0 n ≡ suc (length ts)
 new_opened ts t n l = opened_push ts t opening 0 n ∙ rw (le-ltb n (length (grow_all ts opening).nodes) l) (let z : suc (0 + length ts) ≡ suc (length ts) = omega arith in z)
 
-new_closed : (ts : List Token) (t : Token) (n : ℕ) → (ltb n (length (grow_all ts opening).nodes) && not (is_open_at (grow_all ts opening).at n)) ≡ false
+new_closed : (ts : List TreeToken) (t : TreeToken) (n : ℕ) → (ltb n (length (grow_all ts opening).nodes) && not (is_open_at (grow_all ts opening).at n)) ≡ false
     → closed_from (ts ++ t ∷ []) opening 0 n ≡ suc (length ts)
 new_closed ts t n e = closed_push ts t opening 0 n ∙ rw (e) (let z : suc (0 + length ts) ≡ suc (length ts) = omega arith in z)
 
-module _ (ts : List Token) (t : Token) (old new : Timed) (h : HasTaken ts old) (p : Node) (at : old.tree.at ≡ Some p) (tree : new.tree ≡ grow t old.tree) where
+module _ (ts : List TreeToken) (t : TreeToken) (old new : Timed) (h : HasTaken ts old) (p : Node) (at : old.tree.at ≡ Some p) (tree : new.tree ≡ grow t old.tree) where
   grown_tree : new.tree ≡ grow_all (ts ++ t ∷ []) opening
   grown_tree = tree ∙ (ap (grow t) h.tree_is ∙ sym (grow_all-append ts (t ∷ []) opening))
 
@@ -90,11 +90,11 @@ module _ (ts : List Token) (t : Token) (old new : Timed) (h : HasTaken ts old) (
       → new.fed.items ≡ old.fed.items ++ fed.Opened ∷ [] → HasTaken (ts ++ t ∷ []) new
   started name now is time opened closed fed_is =
       let n1 : Node = Under p (length old.tree.nodes) (Element name) in
-      let g : grow t old.tree ≡ record { nodes = old.tree.nodes ++ n1 ∷ []; at = Some n1 } = ap (λ (o : Option Node). grow_by o t) at ∙ ap (λ (x : Token). grow_by (Some p) x) is in
+      let g : grow t old.tree ≡ record { nodes = old.tree.nodes ++ n1 ∷ []; at = Some n1 } = ap (λ (o : Option Node). grow_by o t) at ∙ ap (λ (x : TreeToken). grow_by (Some p) x) is in
       let nodes = added_one n1 (Some n1) g in
       let opened_now : new.opened.items ≡ old.opened.items ++ suc (length ts) ∷ [] = opened ∙ ap (λ (k : ℕ). old.opened.items ++ k ∷ []) time in
       let closed_now : new.closed.items ≡ old.closed.items ++ suc (length ts) ∷ [] = closed ∙ ap (λ (k : ℕ). old.closed.items ++ k ∷ []) time in
-      let told = one_more fed.Opened (ap (λ (x : Token). fed_at (Some p) x) is) fed_is in
+      let told = one_more fed.Opened (ap (λ (x : TreeToken). fed_at (Some p) x) is) fed_is in
       let long = long_more nodes opened_now closed_now in
       record {
         tree_is = grown_tree;
@@ -107,18 +107,18 @@ module _ (ts : List Token) (t : Token) (old new : Timed) (h : HasTaken ts old) (
         closed_long = long.1;
       }
     where
-      grow_by : Option Node → Token → Tree
+      grow_by : Option Node → TreeToken → Tree
       grow_by o x = grow_at o x old.tree
 
   pub texted : (bytes : List ℕ) (now : ℕ) → t ≡ Chars bytes → now ≡ suc (length ts) → new.opened.items ≡ old.opened.items ++ now ∷ [] → new.closed.items ≡ old.closed.items ++ now ∷ []
       → new.fed.items ≡ old.fed.items ++ fed.Opened ∷ [] → HasTaken (ts ++ t ∷ []) new
   texted bytes now is time opened closed fed_is =
       let n1 : Node = Under p (length old.tree.nodes) (Text bytes) in
-      let g : grow t old.tree ≡ record { nodes = old.tree.nodes ++ n1 ∷ []; at = Some p } = ap (λ (o : Option Node). grow_by o t) at ∙ ap (λ (x : Token). grow_by (Some p) x) is in
+      let g : grow t old.tree ≡ record { nodes = old.tree.nodes ++ n1 ∷ []; at = Some p } = ap (λ (o : Option Node). grow_by o t) at ∙ ap (λ (x : TreeToken). grow_by (Some p) x) is in
       let nodes = added_one n1 (Some p) g in
       let opened_now : new.opened.items ≡ old.opened.items ++ suc (length ts) ∷ [] = opened ∙ ap (λ (k : ℕ). old.opened.items ++ k ∷ []) time in
       let closed_now : new.closed.items ≡ old.closed.items ++ suc (length ts) ∷ [] = closed ∙ ap (λ (k : ℕ). old.closed.items ++ k ∷ []) time in
-      let told = one_more fed.Opened (ap (λ (x : Token). fed_at (Some p) x) is) fed_is in
+      let told = one_more fed.Opened (ap (λ (x : TreeToken). fed_at (Some p) x) is) fed_is in
       let long = long_more nodes opened_now closed_now in
       record {
         tree_is = grown_tree;
@@ -130,7 +130,7 @@ module _ (ts : List Token) (t : Token) (old new : Timed) (h : HasTaken ts old) (
         closed_long = long.1;
       }
     where
-      grow_by : Option Node → Token → Tree
+      grow_by : Option Node → TreeToken → Tree
       grow_by o x = grow_at o x old.tree
 
   same_nodes : (q : Node) → (grow_at (Some q) End old.tree).nodes ≡ old.tree.nodes
@@ -145,11 +145,11 @@ module _ (ts : List Token) (t : Token) (old new : Timed) (h : HasTaken ts old) (
   pub ended : (place now : ℕ) → t ≡ End → now ≡ suc (length ts) → place ≡ serial_of p → new.opened.items ≡ old.opened.items → new.closed.items ≡ set old.closed.items place now
       → new.fed.items ≡ old.fed.items ++ fed.Closed place ∷ [] → HasTaken (ts ++ t ∷ []) new
   ended place now is time here opened closed fed_is =
-      let g : new.tree ≡ grow_at (Some p) End old.tree = tree ∙ (ap (λ (o : Option Node). grow_at o t old.tree) at ∙ ap (λ (x : Token). grow_at (Some p) x old.tree) is) in
+      let g : new.tree ≡ grow_at (Some p) End old.tree = tree ∙ (ap (λ (o : Option Node). grow_at o t old.tree) at ∙ ap (λ (x : TreeToken). grow_at (Some p) x old.tree) is) in
       let nodes : length new.tree.nodes ≡ length old.tree.nodes = ap (λ (P : Tree). length P.nodes) g ∙ ap length (same_nodes p) in
       let whole : Grown old.tree = subst Grown (sym h.tree_is) (Grown-all ts opening Grown-opening) in
       let low : serial_of p < length old.tree.nodes = (let high = Numbered-high 0 old.tree.nodes whole.numbered p (whole.at_in p at) in omega (arith, high)) in
-      let told = one_more (fed.Closed place) (ap (λ (x : Token). fed_at (Some p) x) is ∙ ap (λ (k : ℕ). fed.Closed k ∷ []) (sym here)) fed_is in
+      let told = one_more (fed.Closed place) (ap (λ (x : TreeToken). fed_at (Some p) x) is ∙ ap (λ (k : ℕ). fed.Closed k ∷ []) (sym here)) fed_is in
       record {
         tree_is = grown_tree;
         fed_is = told.0;
@@ -172,5 +172,5 @@ module _ (ts : List Token) (t : Token) (old new : Timed) (h : HasTaken ts old) (
           get_or-set_other old.closed.items place n now 0 apart ∙ (h.closed_is n l before ∙ sym (kept_closed ts t n (there n l) (shut n before)))
 
 -- a node stands at its number
-pub here_of : (ts : List Token) (t : Timed) → HasTaken ts t → (i : ℕ) → i < length t.tree.nodes → i ≡ serial_of (node_at t.tree.nodes i)
+pub here_of : (ts : List TreeToken) (t : Timed) → HasTaken ts t → (i : ℕ) → i < length t.tree.nodes → i ≡ serial_of (node_at t.tree.nodes i)
 here_of ts t h i l = sym (number_of t.tree (subst Grown (sym h.tree_is) (Grown-all ts opening Grown-opening)) i l)

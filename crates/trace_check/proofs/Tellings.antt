@@ -4,10 +4,10 @@ use Rattle.std.specs.List.{filter}
 use Rattle.gcx_model.specs.Core.{PlanTree}
 use Rattle.gcx_model.specs.Demand.{Line}
 use Rattle.gcx_model.specs.Run.{Action, Wrote, Offed}
-use Rattle.gcx_model.specs.Tree.{Token}
+use Rattle.gcx_model.specs.Tree.{TreeToken}
 use Rattle.time_laws.specs.Laws.{TimesRise}
 use Rattle.time_laws.specs.Leaving.{acts_told, count_offs}
-use Rattle.time_laws.specs.Times.{TimedAct, act_of, due, is_due, timed_acts}
+use Rattle.time_laws.specs.Times.{TimedAction, act_of, due, is_due, timed_acts}
 use Rattle.trace_check.specs.Acting.{Shown, ShownAct, Signed, Sized, act_shown, action_shown, seen, shown}
 use Rattle.trace_check.specs.Telling.{IsCounted, IsCourse, IsTelling, IsToldTo, Puts, acts_in, due_in, shown_told, signed_by}
 use Rattle.trace_check.specs.Timing.{clock_in}
@@ -34,7 +34,7 @@ offs_fewer : (a : Action) (xs ys : List Action) → count_offs xs ≤ count_offs
 offs_fewer (Wrote b) xs ys h = h
 offs_fewer (Offed o m) xs ys h = omega (arith, h)
 
-due_few : (j : ℕ) (T : List TimedAct) → count_offs (due j T) ≤ count_offs (map act_of T)
+due_few : (j : ℕ) (T : List TimedAction) → count_offs (due j T) ≤ count_offs (map act_of T)
 due_few j [] = omega arith
 due_few j (a ∷ T) = go (is_due j a) (due_few j T)
   where
@@ -58,10 +58,10 @@ pub few_on : (a : Shown) (old new : Told) → IsCounted old new a → old.signed
 few_on (Sized n) old new h l = let s = h.signed in let m = h.acts in omega (arith, s, m, l)
 few_on (Signed o n) old new h l = let s = h.signed in let m = h.acts in omega (arith, s, m, l)
 
-no_act : TimedAct
+no_act : TimedAction
 no_act = record { at = 0; act = Wrote [] }
 
-module _ (rise : TimesRise) (plan : PlanTree) (ts : List Token) (c : Course) (is : IsCourse plan ts c) (now : ℕ) (old mid : Told) (from to : List ℕ) (h : HasTold plan c now old mid from to) where
+module _ (rise : TimesRise) (plan : PlanTree) (ts : List TreeToken) (c : Course) (is : IsCourse plan ts c) (now : ℕ) (old mid : Told) (from to : List ℕ) (h : HasTold plan c now old mid from to) where
   kept : (x : code.TimedAct) → mid.acts < length c.acts.items → x ≡ get_or c.acts.items mid.acts x → shown x ≡ seen (get_or (timed_acts (clock_in c.timed) c.timed.tree plan) mid.acts no_act)
   kept x l at = ap shown at ∙ kept_at c.acts.items (timed_acts (clock_in c.timed) c.timed.tree plan) is.acts mid.acts x no_act l
 
@@ -71,7 +71,7 @@ module _ (rise : TimesRise) (plan : PlanTree) (ts : List Token) (c : Course) (is
       → (new.signed ≤ count_offs (acts_in plan c) → Puts to next (shown_told (clock_in c.timed) c.timed.tree (acts_in plan c) now mid.signed (act_shown x.act)))
       → HasTold plan c now old new from next
   told_on x l at due_now new next counted puts =
-      let T : List TimedAct = timed_acts (clock_in c.timed) c.timed.tree plan in
+      let T : List TimedAction = timed_acts (clock_in c.timed) c.timed.tree plan in
       let D : List Action = due_in plan c now in
       let s : Shown = act_shown x.act in
       let same = kept x l at in
@@ -96,7 +96,7 @@ module _ (rise : TimesRise) (plan : PlanTree) (ts : List Token) (c : Course) (is
   -- where the next one is later, or there is none, all are told
   pub told_all : (mid.acts < length c.acts.items → (x : code.TimedAct) × (x ≡ get_or c.acts.items mid.acts x) × (now < x.at)) → Puts from to (lines_of plan c now old) × IsToldTo plan c now mid
   told_all later =
-      let T : List TimedAct = timed_acts (clock_in c.timed) c.timed.tree plan in
+      let T : List TimedAction = timed_acts (clock_in c.timed) c.timed.tree plan in
       let D : List Action = due_in plan c now in
       let n = kept_many c.acts.items T is.acts in
       let end : length D ≤ mid.acts

@@ -10,13 +10,13 @@ use Rattle.gcx_model.specs.Growth.{may_all}
 use Rattle.gcx_model.specs.Members.{In}
 use Rattle.gcx_model.specs.Placed.{Placed}
 use Rattle.gcx_model.specs.Run.{Action}
-use Rattle.gcx_model.specs.Tree.{Node, Root, Under, serial_of, within, Tree, Token, Start, Chars, End, opening, grow, grow_all, grow_at}
+use Rattle.gcx_model.specs.Tree.{Node, Root, Under, serial_of, within, Tree, TreeToken, Start, Chars, End, opening, grow, grow_all, grow_at}
 use Rattle.tree_laws.proofs.Growing.{grow_all-append}
 use Rattle.tree_laws.proofs.Matches.{Grown, Grown-all, Grown-opening}
 use Rattle.time_laws.proofs.Clocks.{no_fewer}
 use Rattle.time_laws.specs.Laws.{TimesRise}
 use Rattle.time_laws.specs.Leaving.{acts_told, count_offs, is_closed_and_freed, left_where, next_due, told_by_times, tokens_told}
-use Rattle.time_laws.specs.Times.{IsClock, TimedAct, due, timed_acts, tree_at}
+use Rattle.time_laws.specs.Times.{IsClock, TimedAction, due, timed_acts, tree_at}
 use Rattle.trace_check.specs.Telling.{IsCourse, IsTelling, IsToldTo, Puts, acts_in, due_in, fed_counted, fed_node, fed_told, line_in, over_line}
 use Rattle.trace_check.specs.Timing.{clock_in, fed_all, fed_at}
 use Rattle.trace_check.specs.declared.course.Course.{Course}
@@ -40,7 +40,7 @@ single (x ∷ []) e = (x, refl)
 single (x ∷ (y ∷ xs)) e = absurd (omega (arith, e))
 
 -- where each token did something, the first one did, and the others too
-one_fed : (t : Token) (ts : List Token) (P : Tree) → length (fed_all (t ∷ ts) P) ≡ suc (length ts) → (x : Fed) × (fed_at P.at t ≡ x ∷ []) × (length (fed_all ts (grow t P)) ≡ length ts)
+one_fed : (t : TreeToken) (ts : List TreeToken) (P : Tree) → length (fed_all (t ∷ ts) P) ≡ suc (length ts) → (x : Fed) × (fed_at P.at t ≡ x ∷ []) × (length (fed_all ts (grow t P)) ≡ length ts)
 one_fed t ts P e =
     let a = at_most_one P.at t in
     let b = fed_few ts (grow t P) in
@@ -48,7 +48,7 @@ one_fed t ts P e =
     let one = single (fed_at P.at t) (omega (arith, a, b, e, f)) in
     (one.0, one.1, omega (arith, a, b, e, f))
 
-fed_entry : (ts : List Token) (P : Tree) → length (fed_all ts P) ≡ length ts → (i : ℕ) (d : Token) (f : Fed) → i < length ts
+fed_entry : (ts : List TreeToken) (P : Tree) → length (fed_all ts P) ≡ length ts → (i : ℕ) (d : TreeToken) (f : Fed) → i < length ts
     → fed_at (grow_all (take i ts) P).at (get_or ts i d) ≡ get_or (fed_all ts P) i f ∷ []
 fed_entry [] P e i d f l = absurd (omega (arith, l))
 fed_entry (t ∷ ts) P e zero d f l = let o = one_fed t ts P e in o.1 ∙ ap (λ (xs : List Fed). get_or (xs ++ fed_all ts (grow t P)) 0 f ∷ []) (sym o.1)
@@ -63,7 +63,7 @@ no_fed : (b : Fed) → ◌≡◌ {A = List Fed} [] (b ∷ []) → ⊥
 no_fed b h = cc
 
 -- the node that it opened or closed is there
-fed_there : (t : Token) (P : Tree) (f : Fed) → Grown P → fed_at P.at t ≡ f ∷ [] → fed_node (length P.nodes) f < length (grow t P).nodes
+fed_there : (t : TreeToken) (P : Tree) (f : Fed) → Grown P → fed_at P.at t ≡ f ∷ [] → fed_node (length P.nodes) f < length (grow t P).nodes
 fed_there t P f w e = go P.at t refl e
   where
     below : (p : Node) → P.at ≡ Some p → serial_of p < length P.nodes
@@ -72,7 +72,7 @@ fed_there t P f w e = go P.at t refl e
     last : (xs : List Node) (n : Node) → length xs < length (xs ++ n ∷ [])
     last xs n = let l = length-append xs (n ∷ []) in omega (arith, l)
 
-    go : (o : Option Node) (s : Token) → P.at ≡ o → fed_at o s ≡ f ∷ [] → fed_node (length P.nodes) f < length (grow_at o s P).nodes
+    go : (o : Option Node) (s : TreeToken) → P.at ≡ o → fed_at o s ≡ f ∷ [] → fed_node (length P.nodes) f < length (grow_at o s P).nodes
     go None s at e = absurd (no_fed f e)
     go (Some p) (Start name) at e = subst (λ (g : Fed). fed_node (length P.nodes) g < length (grow_at (Some p) (Start name) P).nodes) (one_same fed.Opened f e) (last P.nodes _)
     go (Some p) (Chars b) at e = subst (λ (g : Fed). fed_node (length P.nodes) g < length (grow_at (Some p) (Chars b) P).nodes) (one_same fed.Opened f e) (last P.nodes _)
@@ -80,13 +80,13 @@ fed_there t P f w e = go P.at t refl e
     go (Some (Under q s k)) End at e = subst (λ (g : Fed). fed_node (length P.nodes) g < length P.nodes) (one_same (fed.Closed s) f e) (below (Under q s k) at)
 
 -- and the nodes are counted
-fed_counts : (t : Token) (P : Tree) (f : Fed) (told : Told) → fed_at P.at t ≡ f ∷ [] → suc told.opened ≡ length P.nodes → suc (fed_counted told f).opened ≡ length (grow t P).nodes
+fed_counts : (t : TreeToken) (P : Tree) (f : Fed) (told : Told) → fed_at P.at t ≡ f ∷ [] → suc told.opened ≡ length P.nodes → suc (fed_counted told f).opened ≡ length (grow t P).nodes
 fed_counts t P f told e many = go P.at t e
   where
     more : (xs : List Node) (n : Node) → suc told.opened ≡ length xs → suc (suc told.opened) ≡ length (xs ++ n ∷ [])
     more xs n h = let l = length-append xs (n ∷ []) in omega (arith, l, h)
 
-    go : (o : Option Node) (s : Token) → fed_at o s ≡ f ∷ [] → suc (fed_counted told f).opened ≡ length (grow_at o s P).nodes
+    go : (o : Option Node) (s : TreeToken) → fed_at o s ≡ f ∷ [] → suc (fed_counted told f).opened ≡ length (grow_at o s P).nodes
     go None s e = absurd (no_fed f e)
     go (Some p) (Start name) e = subst (λ (g : Fed). suc (fed_counted told g).opened ≡ length (grow_at (Some p) (Start name) P).nodes) (one_same fed.Opened f e) (more P.nodes _ many)
     go (Some p) (Chars b) e = subst (λ (g : Fed). suc (fed_counted told g).opened ≡ length (grow_at (Some p) (Chars b) P).nodes) (one_same fed.Opened f e) (more P.nodes _ many)
@@ -108,29 +108,29 @@ within_self (Under p s k) = ap (λ b. b || within s p) (eq-eqb s s refl)
 
 -- ---- one token
 
-abbrev pub all_told : PlanTree → Course → List Token → List Line
+abbrev pub all_told : PlanTree → Course → List TreeToken → List Line
 all_told plan c ts = tokens_told plan (clock_in c.timed) c.timed.tree (timed_acts (clock_in c.timed) c.timed.tree plan) (acts_in plan c) ts opening 0
 
 -- So many tokens are told behind a text.
-pub record HasToldTokens (plan : PlanTree) (ts : List Token) (c : Course) (i : ℕ) (from : List ℕ) (now : Told) (to : List ℕ) : Type 0 where
+pub record HasToldTokens (plan : PlanTree) (ts : List TreeToken) (c : Course) (i : ℕ) (from : List ℕ) (now : Told) (to : List ℕ) : Type 0 where
   pub left : AreLeft plan (clock_in c.timed) c.timed.tree (timed_acts (clock_in c.timed) c.timed.tree plan) (acts_in plan c) ts from (all_told plan c ts) i to
   pub told : IsToldTo plan c i now
   pub opened : suc now.opened ≡ length (tree_at ts i).nodes
 
-module _ (rise : TimesRise) (plan : PlanTree) (ts : List Token) (c : Course) (is : IsCourse plan ts c) (i : ℕ) (l : i < length ts) (f : Fed) (at : f ≡ get_or c.timed.fed.items i f) where
+module _ (rise : TimesRise) (plan : PlanTree) (ts : List TreeToken) (c : Course) (is : IsCourse plan ts c) (i : ℕ) (l : i < length ts) (f : Fed) (at : f ≡ get_or c.timed.fed.items i f) where
   abbrev C : Tree
   C = c.timed.tree
 
   abbrev P : Tree
   P = tree_at ts i
 
-  abbrev T : List TimedAct
+  abbrev T : List TimedAction
   T = timed_acts (clock_in c.timed) c.timed.tree plan
 
-  abbrev us : List Token
+  abbrev us : List TreeToken
   us = ts ++ is.timed.closed.closing
 
-  abbrev t : Token
+  abbrev t : TreeToken
   t = get_or ts i End
 
   longer : i < length us
@@ -140,13 +140,13 @@ module _ (rise : TimesRise) (plan : PlanTree) (ts : List Token) (c : Course) (is
   front = take-append-le i ts is.timed.closed.closing (omega (arith, l))
 
   same_tree : tree_at us i ≡ P
-  same_tree = ap (λ (xs : List Token). grow_all xs opening) front
+  same_tree = ap (λ (xs : List TreeToken). grow_all xs opening) front
 
   same_token : get_or us i End ≡ t
   same_token = get_or_append_left ts is.timed.closed.closing End i l
 
   grown_on : tree_at us (suc i) ≡ grow t P
-  grown_on = tree_more us i End longer ∙ (ap (λ (x : Token). grow x (tree_at us i)) same_token ∙ ap (grow t) same_tree)
+  grown_on = tree_more us i End longer ∙ (ap (λ (x : TreeToken). grow x (tree_at us i)) same_token ∙ ap (grow t) same_tree)
 
   did : fed_at P.at t ≡ f ∷ []
   did =
@@ -161,7 +161,7 @@ module _ (rise : TimesRise) (plan : PlanTree) (ts : List Token) (c : Course) (is
   whole_on : C ≡ grow_all (drop (suc i) us) (grow t P)
   whole_on =
       is.timed.closed.taken.tree_is
-      ∙ (ap (λ (xs : List Token). grow_all xs opening) (sym (take-append-drop (suc i) us))
+      ∙ (ap (λ (xs : List TreeToken). grow_all xs opening) (sym (take-append-drop (suc i) us))
       ∙ (grow_all-append (take (suc i) us) (drop (suc i) us) opening ∙ ap (grow_all (drop (suc i) us)) grown_on))
 
   grown_at : Grown P
@@ -232,7 +232,7 @@ module _ (rise : TimesRise) (plan : PlanTree) (ts : List Token) (c : Course) (is
 -- ---- the whole trace
 
 -- the line of the document node, the actions before any token, and the tokens
-pub whole_told : (plan : PlanTree) (ts : List Token) (c : Course) → IsCourse plan ts c → (start one two three : List ℕ) → Puts start one (line_in plan c 0 ∷ [])
+pub whole_told : (plan : PlanTree) (ts : List TreeToken) (c : Course) → IsCourse plan ts c → (start one two three : List ℕ) → Puts start one (line_in plan c 0 ∷ [])
     → Puts one two (acts_told (clock_in c.timed) c.timed.tree (acts_in plan c) 0 0 (due_in plan c 0)) → Puts two three (all_told plan c ts)
     → Puts start three (told_by_times plan (clock_in c.timed) c.timed.tree (timed_acts (clock_in c.timed) c.timed.tree plan) (acts_in plan c) ts)
 whole_told plan ts c is start one two three p q r =
@@ -246,7 +246,7 @@ pub telling_none : (plan : PlanTree) (c : Course) (told : Told) → told.acts �
 telling_none plan c told a s = record { acts = omega (arith, a); signed = s ∙ ap (λ (k : ℕ). count_offs (take k (due_in plan c 0))) (sym a) }
 
 -- so the trace is told
-pub trace_told : (core : BodyTree) → Good core → (plan : PlanTree) → Placed core plan → (ts : List Token) (c : Course) → may_all ts opening ≡ true → IsCourse plan ts c → (start text : List ℕ)
+pub trace_told : (core : BodyTree) → Good core → (plan : PlanTree) → Placed core plan → (ts : List TreeToken) (c : Course) → may_all ts opening ≡ true → IsCourse plan ts c → (start text : List ℕ)
     → Puts start text (told_by_times plan (clock_in c.timed) c.timed.tree (timed_acts (clock_in c.timed) c.timed.tree plan) (acts_in plan c) ts) → Puts start text (trace_lines plan ts)
 trace_told core good plan placed ts c may is start text h =
     subst (λ (ls : List Line). Puts start text ls) (sym (told_is_trace core good plan placed ts c.timed may is.timed.closed)) h

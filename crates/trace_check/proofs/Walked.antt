@@ -16,7 +16,7 @@ use Rattle.gcx_model.specs.Written.{start_tag, end_tag}
 use Rattle.gcx_model.specs.declared.item.Item.{Item}
 use Rattle.tree_laws.proofs.Matches.{Grown, Matches-in}
 use Rattle.doc_tree.specs.Rows.{node_at}
-use Rattle.time_laws.specs.Times.{Clock, Course, Settled, one_act, none_till, then_on, rounds, copy_course_with, item_course, course, settled}
+use Rattle.time_laws.specs.Times.{Clock, TimedCourse, SettledTruth, one_act, none_till, then_on, rounds, copy_course_with, item_course, course, settled}
 use Rattle.trace_check.specs.Acting.{Adds, WritesAt, whole_copy, copies_below, body_rounds}
 use Rattle.trace_check.specs.Scopes.{bound_in, env_of}
 use Rattle.trace_check.specs.declared.acts.TimedAct as code
@@ -63,7 +63,7 @@ pub turn_more : (c : Clock) (C : Tree) → Grown C → (bs : List Binding) (b : 
     → Adds mid new (course c C d (env_of C (bs ++ b ∷ [])) (max u (c.opened b.node))) v
     → Adds old new (body_rounds c C b.var.0 d (env_of C bs) (map (node_at C.nodes) (take (k + 1) ns)) now) v
 turn_more c C w bs b d ns k now old mid new u v l e there h g =
-    let f : Node → ℕ → Course = λ n u. course c C d (bind_var (env_of C bs) b.var.0 n) u in
+    let f : Node → ℕ → TimedCourse = λ n u. course c C d (bind_var (env_of C bs) b.var.0 n) u in
     let node : Node = node_at C.nodes b.node in
     let before : List Node = map (node_at C.nodes) (take k ns) in
     let more : map (node_at C.nodes) (take (k + 1) ns) ≡ before ++ node ∷ []
@@ -88,7 +88,7 @@ item_more c C env items k i now old mid new u v l e h g =
     (adds_then old mid new (course c C (body_of (map item_tree (take k items))) env now) (λ t. item_course c C (item_tree i) env t) u v h g)
 
 -- the end of a loop
-pub rounds_end : (c : Clock) (f : Node → ℕ → Course) (ns : List Node) (over now : ℕ) (old new : List code.TimedAct) (u : ℕ)
+pub rounds_end : (c : Clock) (f : Node → ℕ → TimedCourse) (ns : List Node) (over now : ℕ) (old new : List code.TimedAct) (u : ℕ)
     → Adds old new (rounds c f ns 0 now) u → Adds old new (rounds c f ns over now) (max u over)
 rounds_end c f ns over now old new u h =
     adds_same old new (then_on (rounds c f ns 0 now) (λ t. none_till (max t over))) (rounds c f ns over now) (max u over) (sym (rounds_over c f ns over now))
@@ -100,7 +100,7 @@ pub loop_done : (c : Clock) (C : Tree) → Grown C → (bs : List Binding) (x y 
     → (now : ℕ) (old new : List code.TimedAct) (u v : ℕ) → v ≡ max u (c.closed node)
     → Adds old new (body_rounds c C x d (env_of C bs) (map (node_at C.nodes) ns) now) u → Adds old new (item_course c C item (env_of C bs) now) v
 loop_done c C w bs x y s d item tree node bound low ns e now old new u v last h =
-    let f : Node → ℕ → Course = λ n t. course c C d (bind_var (env_of C bs) x n) t in
+    let f : Node → ℕ → TimedCourse = λ n t. course c C d (bind_var (env_of C bs) x n) t in
     let from : ℕ = serial_of (node_at C.nodes node) in
     let ms : List Node = matches C from (s ∷ []) in
     let back : map (node_at C.nodes) ns ≡ ms = ap (map (node_at C.nodes)) e ∙ nodes_back C w from (s ∷ []) in
@@ -112,11 +112,11 @@ loop_done c C w bs x y s d item tree node bound low ns e now old new u v last h 
     (subst (λ (t : ℕ). Adds old new (rounds c f ms (c.closed from) now) t) time (rounds_end c f ms (c.closed from) now old new u turns))
 
 -- a choice, from what was found of its condition
-pub choice_done : (c : Clock) (C : Tree) (env : Env) (k : CondTree) (a b d : BodyTree) (known : Settled) (now at : ℕ)
+pub choice_done : (c : Clock) (C : Tree) (env : Env) (k : CondTree) (a b d : BodyTree) (known : SettledTruth) (now at : ℕ)
     → known ≡ settled c C k env → cond known.truth a b ≡ d → at ≡ max now known.at → course c C d env at ≡ item_course c C (If k a b) env now
 choice_done c C env k a b d known now at same chosen later =
     ap (λ (e : BodyTree). course c C e env at) (sym chosen) ∙ (ap (course c C (cond known.truth a b) env) later ∙ (inside known.truth
-    ∙ ap (λ (s : Settled). cond s.truth (course c C a env (max now s.at)) (course c C b env (max now s.at))) same))
+    ∙ ap (λ (s : SettledTruth). cond s.truth (course c C a env (max now s.at)) (course c C b env (max now s.at))) same))
   where
     inside : (t : Bool) → course c C (cond t a b) env (max now known.at) ≡ cond t (course c C a env (max now known.at)) (course c C b env (max now known.at))
     inside true = refl

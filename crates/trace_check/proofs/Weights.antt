@@ -1,7 +1,7 @@
 -- A number by which items and bodies shrink.
 use Rattle.std.proofs.Common.{◌≡◌, ℕ, zero, suc, ◌+◌, ◌<◌, List, [], ◌∷◌, length, map, get_or, sym, ◌∙◌, ap, arith}
 use Rattle.std.proofs.lemmas.List.{get_or-map, length-map}
-use Rattle.gcx_model.specs.Core.{ItemTree, BodyTree, Write, Copy, For, If, Off, Nil, Then}
+use Rattle.gcx_model.specs.Core.{ItemTree, BodyTree, Write, Copy, For, If, SignOff, Nil, Then}
 use Rattle.gcx_model.specs.ItemView.{body_of, item_tree}
 use Rattle.gcx_model.specs.declared.item.Item.{Item}
 
@@ -11,7 +11,7 @@ abbrev mutual
   weight (Copy x) = 0
   weight (For x y s d) = suc (suc (weights d))
   weight (If c a b) = suc (weights a + weights b)
-  weight (Off o) = 0
+  weight (SignOff o) = 0
 
   pub weights : BodyTree → ℕ
   weights Nil = 0

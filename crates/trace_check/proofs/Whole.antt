@@ -8,19 +8,19 @@ use Rattle.gcx_model.specs.Core.{PlanTree}
 use Rattle.gcx_model.specs.Members.{In}
 use Rattle.gcx_model.specs.Paths.{value}
 use Rattle.gcx_model.specs.Points.{actions}
-use Rattle.gcx_model.specs.Tree.{Node, serial_of, Tree, Token, opening, grow_all, is_open_at, is_closed}
+use Rattle.gcx_model.specs.Tree.{Node, serial_of, Tree, TreeToken, opening, grow_all, is_open_at, is_closed}
 use Rattle.tree_laws.proofs.Lists.{In-filter}
 use Rattle.time_laws.proofs.Runs.{run_by_times}
-use Rattle.time_laws.specs.Times.{Clock, IsClock, TimedAct, act_of, due, is_due, is_there, timed_acts, tree_at}
+use Rattle.time_laws.specs.Times.{Clock, IsClock, TimedAction, act_of, due, is_due, is_there, timed_acts, tree_at}
 
 -- ---- a clock goes on behind the last token
 
-module _ (c : Clock) (ts : List Token) (ck : IsClock c ts (grow_all ts opening) (length ts)) where
+module _ (c : Clock) (ts : List TreeToken) (ck : IsClock c ts (grow_all ts opening) (length ts)) where
   abbrev C : Tree
   C = grow_all ts opening
 
   behind : (j : ℕ) → length ts ≤ j → tree_at ts j ≡ C
-  behind j l = ap (λ (l : List Token). grow_all l opening) (take_all j ts l)
+  behind j l = ap (λ (l : List TreeToken). grow_all l opening) (take_all j ts l)
 
   all_opened : (n : Node) → In n C.nodes → c.opened (serial_of n) ≤ length ts
   all_opened n i =
@@ -60,16 +60,16 @@ module _ (c : Clock) (ts : List Token) (ck : IsClock c ts (grow_all ts opening) 
 
 -- ---- all are due at last
 
-abbrev latest : List TimedAct → ℕ
+abbrev latest : List TimedAction → ℕ
 latest [] = 0
 latest (a ∷ more) = max a.at (latest more)
 
-by_then : (T : List TimedAct) (a : TimedAct) → In a T → a.at ≤ latest T
+by_then : (T : List TimedAction) (a : TimedAction) → In a T → a.at ≤ latest T
 by_then [] a i = absurd i
-by_then (x ∷ T) a (inl e) = let f = ap (λ (y : TimedAct). y.at) e in omega (arith, f)
+by_then (x ∷ T) a (inl e) = let f = ap (λ (y : TimedAction). y.at) e in omega (arith, f)
 by_then (x ∷ T) a (inr i) = let l = by_then T a i in omega (arith, l)
 
-pub whole_acts : (c : Clock) (ts : List Token) → IsClock c ts (grow_all ts opening) (length ts) → (plan : PlanTree)
+pub whole_acts : (c : Clock) (ts : List TreeToken) → IsClock c ts (grow_all ts opening) (length ts) → (plan : PlanTree)
     → map act_of (timed_acts c (grow_all ts opening) plan) ≡ actions plan (grow_all ts opening)
 whole_acts c ts ck plan =
     let end : ℕ = max (length ts) (latest T) in
@@ -77,5 +77,5 @@ whole_acts c ts ck plan =
     = ap (map act_of) (filter_all (is_due end) T (λ a i. le-leb a.at end (let l = by_then T a i in omega (arith, l)))) in
     sym all ∙ (sym (run_by_times c ts (grow_all ts opening) end (on c ts ck end) plan end (omega arith)) ∙ ap (actions plan) (behind c ts ck end (omega arith)))
   where
-    T : List TimedAct
+    T : List TimedAction
     T = timed_acts c (grow_all ts opening) plan

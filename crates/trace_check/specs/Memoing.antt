@@ -4,7 +4,7 @@ use Rattle.std.specs.BTreeMap.{get}
 use Rattle.std.specs.Ordering.{nat_cmp, ordering_then}
 use Rattle.std.specs.declared.cmp.Ordering.{Ordering}
 use Rattle.gcx_model.specs.CondView.{core_cond_tree}
-use Rattle.gcx_model.specs.Core.{CondTree, OperandTree, Always, Exists, Compare, Not, All as all_of, Any, Path, Str, Num}
+use Rattle.gcx_model.specs.Core.{CondTree, OperandTree, Always, Exists, Compare, Not, AllOf as all_of, AnyOf, Path, Str, Num}
 use Rattle.gcx_model.specs.Paths.{matches}
 use Rattle.gcx_model.specs.Tree.{serial_of}
 use Rattle.doc_tree.specs.Rows.{node_at}
@@ -26,7 +26,7 @@ IsAtom (Exists x steps) = ⊤
 IsAtom (Compare l rel r) = ⊤
 IsAtom (Not c) = ⊥
 IsAtom (all_of cs) = ⊥
-IsAtom (Any cs) = ⊥
+IsAtom (AnyOf cs) = ⊥
 
 -- the node of the variable of a side, 0 of a literal
 abbrev pub side_in : List Binding → OperandTree → ℕ
@@ -41,7 +41,7 @@ left_in bs (Exists x steps) = bound_in 0 x bs
 left_in bs (Compare l rel r) = side_in bs l
 left_in bs (Not c) = 0
 left_in bs (all_of cs) = 0
-left_in bs (Any cs) = 0
+left_in bs (AnyOf cs) = 0
 
 abbrev pub right_in : List Binding → CondTree → ℕ
 right_in bs Always = 0
@@ -49,7 +49,7 @@ right_in bs (Exists x steps) = 0
 right_in bs (Compare l rel r) = side_in bs r
 right_in bs (Not c) = 0
 right_in bs (all_of cs) = 0
-right_in bs (Any cs) = 0
+right_in bs (AnyOf cs) = 0
 
 -- the order of pairs of numbers
 abbrev pub pair_cmp : ℕ × ℕ → ℕ × ℕ → Ordering

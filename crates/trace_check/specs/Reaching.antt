@@ -1,7 +1,7 @@
 -- What roles reach on a whole tree, as ranges of nodes' numbers (this project's).
 use Rattle.std.specs.Prelude.{◌≡◌, ℕ, Bool, ◌&&◌, List, [], ◌∷◌, map, filter, nat_le, ◌==◌}
 use Rattle.gcx_base.specs.declared.steps.Step.{Step}
-use Rattle.gcx_model.specs.Core.{RoleKind, Own, First, Whole}
+use Rattle.gcx_model.specs.Core.{RoleTarget, Own, First, Whole}
 use Rattle.gcx_model.specs.Held.{is_node}
 use Rattle.gcx_model.specs.Members.{In}
 use Rattle.gcx_model.specs.Paths.{any, first}
@@ -43,7 +43,7 @@ stepped_on [] f = f
 stepped_on (s ∷ rest) f = stepped_on rest (stepped s f)
 
 -- what a role of this tail and this kind reaches from the set
-abbrev pub role_reaches : Tree → (Node → Bool) → (tail : List Step) → RoleKind → Node → Bool
+abbrev pub role_reaches : Tree → (Node → Bool) → (tail : List Step) → RoleTarget → Node → Bool
 role_reaches C f tail Own n = f n
 role_reaches C f tail First n = any (λ j. is_node (serial_of n) (first C (serial_of j) tail)) (filter f C.nodes)
 role_reaches C f tail Whole n = any (stepped_on tail f) (above n)

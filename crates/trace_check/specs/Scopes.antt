@@ -6,7 +6,7 @@ use Rattle.gcx_model.specs.Nodes.{Grown}
 use Rattle.gcx_model.specs.Tree.{Tree}
 use Rattle.gcx_model.specs.Truth.{Env}
 use Rattle.doc_tree.specs.Rows.{node_at}
-use Rattle.time_laws.specs.Times.{Course}
+use Rattle.time_laws.specs.Times.{TimedCourse}
 use Rattle.trace_check.specs.Acting.{body_rounds}
 use Rattle.trace_check.specs.Timing.{clock_in}
 use Rattle.trace_check.specs.declared.scope.Binding.{Binding}
@@ -27,5 +27,5 @@ pub record IsBound (C : Tree) (bs : List Binding) : Type 0 where
   pub there : (b : Binding) → In b bs → b.node < length C.nodes
 
 -- the course of a body for each of these nodes, one after another, from the time on
-abbrev pub rounds_from : Timed → List Binding → (var : ℕ) → BodyTree → (nodes : List ℕ) → (now : ℕ) → Course
+abbrev pub rounds_from : Timed → List Binding → (var : ℕ) → BodyTree → (nodes : List ℕ) → (now : ℕ) → TimedCourse
 rounds_from t scope x d nodes now = body_rounds (clock_in t) t.tree x d (env_of t.tree scope) (map (node_at t.tree.nodes) nodes) now

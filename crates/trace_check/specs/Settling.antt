@@ -15,10 +15,10 @@ use Rattle.trace_check.specs.declared.values.Value.{Value}
 use Rattle.trace_check.specs.declared.values.Value.TheVariants as compared
 use Rattle.trace_check.specs.declared.values.TimedValue as code
 
-abbrev pub settled_in : Settled → times.Settled
+abbrev pub settled_in : Settled → times.SettledTruth
 settled_in s = record { at = s.at; truth = s.truth }
 
-abbrev pub value_in : Value → model.Value
+abbrev pub value_in : Value → model.ComparedValue
 value_in (compared.Bytes bytes) = model.Bytes bytes.items
 value_in (compared.Units units) = model.Units units
 
@@ -35,10 +35,10 @@ is_sooner None at = true
 is_sooner (Some found) at = nat_lt at found
 
 -- whether the steps have a match from the node with this number, and since when that is known
-abbrev pub exists_at : Clock → Tree → ℕ → List Step → times.Settled
+abbrev pub exists_at : Clock → Tree → ℕ → List Step → times.SettledTruth
 exists_at c C n steps =
     exists_settled c (matches C (serial_of (node_at C.nodes n)) steps) (c.closed (serial_of (node_at C.nodes n)))
 
 -- the truth is known no sooner than this
-abbrev pub no_sooner : ℕ → times.Settled → times.Settled
+abbrev pub no_sooner : ℕ → times.SettledTruth → times.SettledTruth
 no_sooner at s = record { at = max at s.at; truth = s.truth }

@@ -5,7 +5,7 @@ use Rattle.gcx_model.specs.Demand.{Line, Opened, Closed, Written, SignedOff, Lef
 use Rattle.gcx_model.specs.Members.{In}
 use Rattle.gcx_model.specs.Points.{actions}
 use Rattle.gcx_model.specs.Run.{Action}
-use Rattle.gcx_model.specs.Tree.{Tree, Token, kind_of, opening}
+use Rattle.gcx_model.specs.Tree.{Tree, TreeToken, kind_of, opening}
 use Rattle.tree_laws.specs.LineTexts.{IsPlain}
 use Rattle.doc_tree.specs.Rows.{node_at}
 use Rattle.time_laws.specs.Leaving.{acts_told, count_offs, is_freed, left_where, told_by_times, tokens_told}
@@ -23,7 +23,7 @@ abbrev pub acts_in : PlanTree → Course → List Action
 acts_in plan c = actions plan c.timed.tree
 
 -- This is known of the plan's run over these tokens.
-pub record IsCourse (plan : PlanTree) (ts : List Token) (c : Course) : Type 0 where
+pub record IsCourse (plan : PlanTree) (ts : List TreeToken) (c : Course) : Type 0 where
   pub timed : IsTimed ts c.timed
   pub acts : map shown c.acts.items ≡ map seen (timed_acts (clock_in c.timed) c.timed.tree plan)
   pub given : map numbers_in c.given.items ≡ given_all plan c.timed.tree
@@ -93,25 +93,25 @@ pub record Puts (old new : List ℕ) (lines : List Line) : Type 0 where
 
 -- the lines of the nodes that the statement of this number frees, of those that are closed by the time
 abbrev pub PutsFreed : Course → (now number : ℕ) → (before after : List ℕ) → Type 0
-PutsFreed c now k before after = (plan : PlanTree) (ts : List Token) → IsCourse plan ts c → k ≤ count_offs (acts_in plan c)
+PutsFreed c now k before after = (plan : PlanTree) (ts : List TreeToken) → IsCourse plan ts c → k ≤ count_offs (acts_in plan c)
     → Puts before after (left_where c.timed.tree (is_freed (clock_in c.timed) c.timed.tree (acts_in plan c) now k))
 
 -- the lines of an action, behind which so much is told
 abbrev pub PutsAct : Course → (now : ℕ) → (old new : Told) → Shown → (before after : List ℕ) → Type 0
-PutsAct c now old new a before after = (plan : PlanTree) (ts : List Token) → IsCourse plan ts c → new.signed ≤ count_offs (acts_in plan c)
+PutsAct c now old new a before after = (plan : PlanTree) (ts : List TreeToken) → IsCourse plan ts c → new.signed ≤ count_offs (acts_in plan c)
     → Puts before after (shown_told (clock_in c.timed) c.timed.tree (acts_in plan c) now old.signed a)
 
 -- the lines of the actions that are possible at the time and aren't told
 abbrev pub PutsActs : Course → (now : ℕ) → Told → (before after : List ℕ) → Type 0
-PutsActs c now old before after = (plan : PlanTree) (ts : List Token) → IsCourse plan ts c → IsTelling plan c now old
+PutsActs c now old before after = (plan : PlanTree) (ts : List TreeToken) → IsCourse plan ts c → IsTelling plan c now old
     → Puts before after (acts_told (clock_in c.timed) c.timed.tree (acts_in plan c) now old.signed (drop old.acts (due_in plan c now)))
 
 -- the lines of the tokens that are told, each with the actions behind it
 abbrev pub PutsTokens : Course → Told → (before after : List ℕ) → Type 0
-PutsTokens c old before after = (plan : PlanTree) (ts : List Token) → IsCourse plan ts c → IsToldTo plan c 0 old
+PutsTokens c old before after = (plan : PlanTree) (ts : List TreeToken) → IsCourse plan ts c → IsToldTo plan c 0 old
     → Puts before after (tokens_told plan (clock_in c.timed) c.timed.tree (timed_acts (clock_in c.timed) c.timed.tree plan) (acts_in plan c) ts opening 0)
 
 -- the text of the run's trace, told by times
 abbrev pub PutsRun : Course → (before after : List ℕ) → Type 0
-PutsRun c before after = (plan : PlanTree) (ts : List Token) → IsCourse plan ts c
+PutsRun c before after = (plan : PlanTree) (ts : List TreeToken) → IsCourse plan ts c
     → Puts before after (told_by_times plan (clock_in c.timed) c.timed.tree (timed_acts (clock_in c.timed) c.timed.tree plan) (acts_in plan c) ts)

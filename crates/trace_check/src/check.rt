@@ -8,7 +8,7 @@ ghost use Rattle.gcx_model.specs.Placed.{Placed};
 ghost use Rattle.gcx_model.specs.PlanView.{plan_tree};
 ghost use Rattle.gcx_model.specs.Tree.{opening};
 ghost use Rattle.doc_reader.specs.Standing.{said_of};
-ghost use Rattle.run_words.specs.Stops.{End};
+ghost use Rattle.run_words.specs.Stops.{EndAnswered};
 ghost use Rattle.time_laws.specs.Checking.{fitted, line_ends, Judges};
 ghost use Rattle.trace_check.specs.Judging.{IsInCommon, JudgesSource, StopsBy, answer_in, trace_of};
 ghost use Rattle.trace_check.specs.Telling.{Puts};
@@ -73,7 +73,7 @@ fn next_line(text: &[u8]) -> u64
 fn ended(text: &[u8], at: usize) -> Checked
     requires { at ≤ length text.now }
     ensures judged { Judges text.now (answer_in result) (take at text.now) true }
-    ensures stops { StopsBy result [] End }
+    ensures stops { StopsBy result [] EndAnswered }
 {
     if at == text.len() {
         Checked::Yes(line_ends(text))

@@ -2,7 +2,7 @@
 ghost use Rattle.std.specs.Prelude.{◌≡◌, ◌≤◌, ◌<◌, ◌+◌, ◌^◌, ◌∷◌, [], List, suc, get_or, IfOk, OnOk};
 ghost use Rattle.gcx_model.specs.Core.{PlanTree};
 ghost use Rattle.gcx_model.specs.Demand.{Left, line_kind};
-ghost use Rattle.gcx_model.specs.Tree.{Token as Said, kind_of};
+ghost use Rattle.gcx_model.specs.Tree.{TreeToken as Said, kind_of};
 ghost use Rattle.buf_trace.specs.Lines.{kind_tree};
 ghost use Rattle.doc_tree.specs.Rows.{node_at};
 ghost use Rattle.trace_check.specs.Acting.{act_shown};

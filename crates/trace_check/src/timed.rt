@@ -1,6 +1,6 @@
 //! The whole tree of a document, with the times at which its nodes are opened and closed. A time is a number of tokens.
 ghost use Rattle.std.specs.Prelude.{◌≡◌, ◌++◌, ◌∷◌, [], ℕ, List, true, map, None, OnOk, IfOk};
-ghost use Rattle.gcx_model.specs.Tree.{Token as Said, opening, grow};
+ghost use Rattle.gcx_model.specs.Tree.{TreeToken as Said, opening, grow};
 ghost use Rattle.gcx_model.specs.Growth.{may_all};
 ghost use Rattle.doc_reader.specs.Standing.{said_of};
 ghost use Rattle.trace_check.specs.Timing.{clock_in, IsLong, HasTaken, HasClosed, IsTimed};

@@ -6,7 +6,7 @@ use Rattle.gcx_base.specs.Name.{IsNameBytes}
 use Rattle.gcx_base.specs.declared.kind.Kind.{Kind}
 use Rattle.gcx_base.specs.declared.kind.Kind.TheVariants.{Element, Text}
 use Rattle.gcx_model.specs.Document.{Nodes, none, element, text, is_blank, ends_with_text, AreNodes, IsDocument, tokens, tree_of}
-use Rattle.gcx_model.specs.Tree.{Node, Root, Under, serial_of, Tree, Token, Start, Chars, End, opening, grow, grow_at, grow_all}
+use Rattle.gcx_model.specs.Tree.{Node, Root, Under, serial_of, Tree, TreeToken, Start, Chars, End, opening, grow, grow_at, grow_all}
 use Rattle.gcx_model.specs.Members.{In}
 use Rattle.gcx_model.specs.Growth.{has_root, is_text_in, ends_in_text, may_come_at, may_come, may_all}
 use Rattle.tree_laws.specs.DocumentTrees.{DocumentsGrow}
@@ -50,10 +50,10 @@ record Adds (q : Node) (d : Nodes) (P : Tree) : Type 0 where
   inside : (p : Node) → serial_of p < serial_of q → (x : Node) → In x more → is_text_in p x ≡ false
   ends : ends_with_text d ≡ false → ends_in_text q (grow_all (tokens d) P).nodes ≡ false
 
-comes_at : (P : Tree) (at : Option Node) (t : Token) → P.at ≡ at → may_come_at at t P.nodes ≡ true → may_come t P ≡ true
+comes_at : (P : Tree) (at : Option Node) (t : TreeToken) → P.at ≡ at → may_come_at at t P.nodes ≡ true → may_come t P ≡ true
 comes_at P at t e h = subst (λ (z : Option Node). may_come_at z t P.nodes ≡ true) (sym e) h
 
-one_more : (P : Tree) (t : Token) → may_come t P ≡ true → may_all (t ∷ []) P ≡ true
+one_more : (P : Tree) (t : TreeToken) → may_come t P ≡ true → may_all (t ∷ []) P ≡ true
 one_more P t h = and_from _ _ h refl
 
 module _ (r : Node) (s : ℕ) (k : Kind) where

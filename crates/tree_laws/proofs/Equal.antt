@@ -8,7 +8,7 @@ use Rattle.gcx_base.specs.declared.steps.Axis.TheVariants.{Child, Descendant}
 use Rattle.gcx_base.specs.declared.steps.Test.{Test}
 use Rattle.gcx_base.specs.declared.steps.Test.TheVariants.{Named, AnyElement, AnyText, AnyNode}
 use Rattle.gcx_base.specs.declared.steps.Step.{Step}
-use Rattle.gcx_model.specs.Core.{RoleKind, Own, First, Whole, OffTree}
+use Rattle.gcx_model.specs.Core.{RoleTarget, Own, First, Whole, OffTree}
 use Rattle.gcx_model.specs.Equal.{axis_eq, test_eq, steps_eq, kind_eq, off_eq}
 
 axis_refl : (a : Axis) → axis_eq a a ≡ true
@@ -34,12 +34,12 @@ test_same AnyText AnyText h = refl
 test_same AnyNode AnyNode h = refl
 test_same t u h = absurd (false≢true h)
 
-kind_refl : (k : RoleKind) → kind_eq k k ≡ true
+kind_refl : (k : RoleTarget) → kind_eq k k ≡ true
 kind_refl Own = refl
 kind_refl First = refl
 kind_refl Whole = refl
 
-kind_same : (k l : RoleKind) → kind_eq k l ≡ true → k ≡ l
+kind_same : (k l : RoleTarget) → kind_eq k l ≡ true → k ≡ l
 kind_same Own Own h = refl
 kind_same First First h = refl
 kind_same Whole Whole h = refl

@@ -1,6 +1,6 @@
 -- Open trees are what tokens make of the opening one: what holds of these holds of all.
 use Rattle.std.proofs.Common.{◌≡◌, ◌<◌, true, List, [], ◌∷◌, refl, sym, ◌∙◌, ap, subst, inl, inr, arith, Some, None, Option, eqb, false}
-use Rattle.gcx_model.specs.Tree.{Node, Root, Under, serial_of, Tree, Token, grow, grow_all, is_closed, within, is_open_at, opening, above}
+use Rattle.gcx_model.specs.Tree.{Node, Root, Under, serial_of, Tree, TreeToken, grow, grow_all, is_closed, within, is_open_at, opening, above}
 use Rattle.tree_laws.proofs.Lists.{In, In-left}
 use Rattle.tree_laws.proofs.Matches.{Grown, Grown-grow, Grown-all, grow_nodes, added, Grown-opening}
 use Rattle.std.proofs.lemmas.Bool.{or_right, true≢false, not-true}
@@ -12,18 +12,18 @@ use Rattle.tree_laws.specs.Growth.{GrowIsFeeding, LeadsIsFeeding, TokensAreFound
 use Rattle.tree_laws.proofs.Order.{Ordered-grow}
 use Rattle.tree_laws.proofs.Growing.{grow_is, leads_is, fed_all, tokens_found}
 
-pub nodes_stay : (ts : List Token) (P : Tree) (m : Node) → In m P.nodes → In m (grow_all ts P).nodes
+pub nodes_stay : (ts : List TreeToken) (P : Tree) (m : Node) → In m P.nodes → In m (grow_all ts P).nodes
 nodes_stay [] P m i = i
 nodes_stay (t ∷ ts) P m i = nodes_stay ts (grow t P) m (subst (λ (z : List Node). In m z) (sym (grow_nodes t P)) (In-left m P.nodes (added t P) i))
 
 -- the open tree of some tokens
-abbrev pub tree : List Token → Tree
+abbrev pub tree : List TreeToken → Tree
 tree ts = grow_all ts opening
 
-pub grown : (ts : List Token) → Grown (tree ts)
+pub grown : (ts : List TreeToken) → Grown (tree ts)
 grown ts = Grown-all ts opening Grown-opening
 
-pub root_in : (ts : List Token) → In Root (tree ts).nodes
+pub root_in : (ts : List TreeToken) → In Root (tree ts).nodes
 root_in ts = nodes_stay ts opening Root (inl refl)
 
 pub grow_is_feeding : GrowIsFeeding
@@ -36,7 +36,7 @@ pub tokens_are_found : TokensAreFound
 tokens_are_found ts h = tokens_found ts h
 
 -- what holds of the trees of all lists of tokens holds of each tree to which the opening one leads
-pub from_tokens : (Q : Tree → Type 0) → ((ts : List Token) → Q (tree ts)) → (P : Tree) → Leads opening P → Q P
+pub from_tokens : (Q : Tree → Type 0) → ((ts : List TreeToken) → Q (tree ts)) → (P : Tree) → Leads opening P → Q P
 from_tokens Q h P l = let r = fed_all opening P l in subst Q (sym r.2) (h r.0)
 
 pub grown_from : (P : Tree) → Leads opening P → Grown P
@@ -59,7 +59,7 @@ ordered_opening = record {
     same a b e (inl f) l = let g = ap serial_of e in let h = ap serial_of f in absurd (omega arith)
     same a b e (inr k) l = k
 
-pub ordered_all : (ts : List Token) (P : Tree) → Grown P → Ordered P → Grown (grow_all ts P) × Ordered (grow_all ts P)
+pub ordered_all : (ts : List TreeToken) (P : Tree) → Grown P → Ordered P → Grown (grow_all ts P) × Ordered (grow_all ts P)
 ordered_all [] P w o = (w, o)
 ordered_all (t ∷ ts) P w o = ordered_all ts (grow t P) (Grown-grow t P w) (Ordered-grow t P w o)
 

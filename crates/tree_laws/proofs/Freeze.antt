@@ -4,7 +4,7 @@ use Rattle.std.specs.List.{flat_map}
 use Rattle.std.proofs.lemmas.List.{append-nil}
 use Rattle.std.proofs.lemmas.Bool.{or_cases, or_left, or_right, or_from, and_parts, true≢false, false≢true, eqb-true, eq-eqb, ne_eqb, not-true, false_from_ne_true}
 use Rattle.std.proofs.lemmas.Grind.{flat_map-append}
-use Rattle.gcx_model.specs.Tree.{Node, Root, Under, serial_of, kind_of, above, within, Tree, Token, Start, Chars, End, grow, grow_at, is_open_at, is_closed}
+use Rattle.gcx_model.specs.Tree.{Node, Root, Under, serial_of, kind_of, above, within, Tree, TreeToken, Start, Chars, End, grow, grow_at, is_open_at, is_closed}
 use Rattle.gcx_base.specs.declared.steps.Step.{Step}
 use Rattle.gcx_base.specs.declared.steps.Axis.{Axis}
 use Rattle.gcx_base.specs.declared.steps.Axis.TheVariants.{Child, Descendant}
@@ -38,7 +38,7 @@ hits_within n (s ∷ rest) m h =
     within_above n r.0 m r.1 (lies_within s.axis n r.0 b.1)
 
 -- the new node lies in no closed node
-closed_added_at : (at : Option Node) (t : Token) (P : Tree) (n : ℕ) → n < length P.nodes → is_open_at at n ≡ false → (m : Node) → In m (added_at at t P) → within n m ≡ false
+closed_added_at : (at : Option Node) (t : TreeToken) (P : Tree) (n : ℕ) → n < length P.nodes → is_open_at at n ≡ false → (m : Node) → In m (added_at at t P) → within n m ≡ false
 closed_added_at None t P n l c m i = absurd i
 closed_added_at (Some p) (Start name) P n l c m (inl e) = subst (λ (x : Node). within n x ≡ false) e (or_from (eqb (length P.nodes) n) (within n p) (ne_eqb (length P.nodes) n (λ f. omega arith)) c)
 closed_added_at (Some p) (Start name) P n l c m (inr i) = absurd i
@@ -46,10 +46,10 @@ closed_added_at (Some p) (Chars b) P n l c m (inl e) = subst (λ (x : Node). wit
 closed_added_at (Some p) (Chars b) P n l c m (inr i) = absurd i
 closed_added_at (Some p) End P n l c m i = absurd i
 
-pub closed_added : (t : Token) (P : Tree) (n : Node) → serial_of n < length P.nodes → is_closed P n ≡ true → (m : Node) → In m (added t P) → within (serial_of n) m ≡ false
+pub closed_added : (t : TreeToken) (P : Tree) (n : Node) → serial_of n < length P.nodes → is_closed P n ≡ true → (m : Node) → In m (added t P) → within (serial_of n) m ≡ false
 closed_added t P n l c = closed_added_at P.at t P (serial_of n) l (not-true _ c)
 
-stays_closed_at : (at : Option Node) (t : Token) (P : Tree) (n : ℕ) → P.at ≡ at → n < length P.nodes → is_open_at at n ≡ false → is_open_at (grow_at at t P).at n ≡ false
+stays_closed_at : (at : Option Node) (t : TreeToken) (P : Tree) (n : ℕ) → P.at ≡ at → n < length P.nodes → is_open_at at n ≡ false → is_open_at (grow_at at t P).at n ≡ false
 stays_closed_at None t P n e l c = rw e refl
 stays_closed_at (Some p) (Start name) P n e l c = or_from (eqb (length P.nodes) n) (within n p) (ne_eqb (length P.nodes) n (λ f. omega arith)) c
 stays_closed_at (Some p) (Chars b) P n e l c = c
@@ -60,14 +60,14 @@ stays_closed_at (Some (Under p s k)) End P n e l c = (or_parts' (eqb s n) (withi
     or_parts' true y h = absurd (true≢false h)
     or_parts' false y h = h
 
-pub stays_closed : (t : Token) (P : Tree) (n : Node) → serial_of n < length P.nodes → is_closed P n ≡ true → is_closed (grow t P) n ≡ true
+pub stays_closed : (t : TreeToken) (P : Tree) (n : Node) → serial_of n < length P.nodes → is_closed P n ≡ true → is_closed (grow t P) n ≡ true
 stays_closed t P n l c = ap not (stays_closed_at P.at t P (serial_of n) refl l (not-true _ c))
 
 hits_no : (n : ℕ) (path : List Step) (m : Node) → within n m ≡ false → hits n path m ≡ false
 hits_no n path m h = false_from_ne_true (hits n path m) (λ e. false≢true (sym h ∙ hits_within n path m e))
 
 -- the matches at a closed node are final
-pub Matches-closed : (t : Token) (P : Tree) (n : Node) (path : List Step) → serial_of n < length P.nodes → is_closed P n ≡ true → matches (grow t P) (serial_of n) path ≡ matches P (serial_of n) path
+pub Matches-closed : (t : TreeToken) (P : Tree) (n : Node) (path : List Step) → serial_of n < length P.nodes → is_closed P n ≡ true → matches (grow t P) (serial_of n) path ≡ matches P (serial_of n) path
 Matches-closed t P n path l c =
     Matches-grow t P (serial_of n) path
     ∙ (ap (λ x. matches P (serial_of n) path ++ x) (filter_none (hits (serial_of n) path) (added t P) (λ m i. hits_no (serial_of n) path m (closed_added t P n l c m i)))
@@ -78,7 +78,7 @@ flat_map-none f [] h = refl
 flat_map-none f (x ∷ xs) h = rw (h x (inl refl)) (flat_map-none f xs (λ y k. h y (inr k)))
 
 -- and so is its string value
-pub value_closed : (t : Token) (P : Tree) (n : Node) → serial_of n < length P.nodes → is_closed P n ≡ true → value (grow t P) n ≡ value P n
+pub value_closed : (t : TreeToken) (P : Tree) (n : Node) → serial_of n < length P.nodes → is_closed P n ≡ true → value (grow t P) n ≡ value P n
 value_closed t P n l c =
     let f : Node → List ℕ = λ m. cond (within (serial_of n) m) (text_of (kind_of m)) [] in
     ap (flat_map f) (grow_nodes t P) ∙ (flat_map-append f P.nodes (added t P)

@@ -12,7 +12,7 @@ use Rattle.gcx_base.specs.Name.{is_name, IsNameBytes}
 use Rattle.gcx_base.proofs.Names.{name_text, name_chars}
 use Rattle.gcx_base.specs.declared.kind.Kind.{Kind}
 use Rattle.gcx_base.specs.declared.kind.Kind.TheVariants.{Element, Text}
-use Rattle.gcx_model.specs.Tree.{Node, Root, Under, above, Tree, Token, Start, Chars, End, opening, grow, grow_at, grow_all}
+use Rattle.gcx_model.specs.Tree.{Node, Root, Under, above, Tree, TreeToken, Start, Chars, End, opening, grow, grow_at, grow_all}
 use Rattle.gcx_model.specs.Members.{In}
 use Rattle.gcx_model.specs.Growth.{has_root, Grow, opened, added, closed, ended, Leads, stays, more, may_come_at, may_come, may_all, is_name_bytes, level, ends, open_at, token_of, tokens_behind, tokens_from, tokens_of}
 
@@ -23,7 +23,7 @@ tree_same P Q e f = ap (λ z. record { nodes = z; at = P.at }) e ∙ ap (λ z. r
 -- Grow is a token that may come
 
 abbrev pub Fed : Tree → Tree → Type 0
-Fed P Q = (t : Token) × (may_come t P ≡ true) × (Q ≡ grow t P)
+Fed P Q = (t : TreeToken) × (may_come t P ≡ true) × (Q ≡ grow t P)
 
 -- the test of a name
 pub name_tested : (b : List ℕ) → IsNameBytes b → is_name_bytes b ≡ true
@@ -58,7 +58,7 @@ fed_from P Q (ended at h n a) = (
   tree_same Q (grow End P) (n ∙ sym (ap (λ (z : Option Node). (grow_at z End P).nodes) at)) (a ∙ sym (ap (λ (z : Option Node). (grow_at z End P).at) at)),
 )
 
-pub grows_at : (at : Option Node) (t : Token) (P : Tree) → P.at ≡ at → may_come_at at t P.nodes ≡ true → Grow P (grow_at at t P)
+pub grows_at : (at : Option Node) (t : TreeToken) (P : Tree) → P.at ≡ at → may_come_at at t P.nodes ≡ true → Grow P (grow_at at t P)
 grows_at None t P e m = absurd (false≢true m)
 grows_at (Some Root) (Start name) P e m = let a = and_parts (is_name_bytes name) (not (has_root P.nodes)) m in opened Root name (tested_name name a.0) e (λ r. not-true _ a.1) refl refl
 grows_at (Some Root) (Chars b) P e m = absurd (false≢true m)
@@ -67,7 +67,7 @@ grows_at (Some (Under p s k)) (Start name) P e m = opened (Under p s k) name (te
 grows_at (Some (Under p s k)) (Chars b) P e m = let a = and_parts _ _ m in added p s k b e (not-true _ a.0) (not-true _ a.1) refl (sym e)
 grows_at (Some (Under p s k)) End P e m = closed p s k e refl refl
 
-pub grows : (t : Token) (P : Tree) → may_come t P ≡ true → Grow P (grow t P)
+pub grows : (t : TreeToken) (P : Tree) → may_come t P ≡ true → Grow P (grow t P)
 grows t P m = grows_at P.at t P refl m
 
 pub grow_is : (P Q : Tree) → (Grow P Q → Fed P Q) × (Fed P Q → Grow P Q)
@@ -76,13 +76,13 @@ grow_is P Q = (fed_from P Q, λ h. subst (λ (z : Tree). Grow P z) (sym h.2) (gr
 -- and P <= Q is a list of tokens each of which may come
 
 abbrev pub FedAll : Tree → Tree → Type 0
-FedAll P Q = (ts : List Token) × (may_all ts P ≡ true) × (Q ≡ grow_all ts P)
+FedAll P Q = (ts : List TreeToken) × (may_all ts P ≡ true) × (Q ≡ grow_all ts P)
 
-pub grow_all-append : (ts us : List Token) (P : Tree) → grow_all (ts ++ us) P ≡ grow_all us (grow_all ts P)
+pub grow_all-append : (ts us : List TreeToken) (P : Tree) → grow_all (ts ++ us) P ≡ grow_all us (grow_all ts P)
 grow_all-append [] us P = refl
 grow_all-append (t ∷ ts) us P = grow_all-append ts us (grow t P)
 
-pub may_all-append : (ts us : List Token) (P : Tree) → may_all ts P ≡ true → may_all us (grow_all ts P) ≡ true → may_all (ts ++ us) P ≡ true
+pub may_all-append : (ts us : List TreeToken) (P : Tree) → may_all ts P ≡ true → may_all us (grow_all ts P) ≡ true → may_all (ts ++ us) P ≡ true
 may_all-append [] us P h k = k
 may_all-append (t ∷ ts) us P h k = let a = and_parts (may_come t P) (may_all ts (grow t P)) h in and_from _ _ a.0 (may_all-append ts us (grow t P) a.1 k)
 
@@ -98,7 +98,7 @@ pub Leads-trans : (P Q R : Tree) → Leads P Q → Leads Q R → Leads P R
 Leads-trans P Q R h stays = h
 Leads-trans P Q R h (more k g) = more (Leads-trans P Q _ h k) g
 
-pub leads : (ts : List Token) (P : Tree) → may_all ts P ≡ true → Leads P (grow_all ts P)
+pub leads : (ts : List TreeToken) (P : Tree) → may_all ts P ≡ true → Leads P (grow_all ts P)
 leads [] P h = stays
 leads (t ∷ ts) P h = let a = and_parts (may_come t P) (may_all ts (grow t P)) h in Leads-trans P (grow t P) _ (more stays (grows t P a.0)) (leads ts (grow t P) a.1)
 
@@ -142,7 +142,7 @@ new_start p P name = Under p (length P.nodes) (Element name)
 Tail-new : (P : Tree) (n : Node) (at : Option Node) → Tail P → ((q : Node) → at ≡ Some q → In q (above (open_at n))) → Tail (record { nodes = P.nodes ++ n ∷ []; at = at })
 Tail-new P n at t h = (t.0, t.1 ++ n ∷ [], ap (λ z. z ++ n ∷ []) t.2, λ q e. subst (λ (z : Node). In q (above (open_at z))) (sym (last_node-push t.0 t.1 n)) (h q e))
 
-Tail-grow_at : (at : Option Node) (t : Token) (P : Tree) → P.at ≡ at → Tail P → Tail (grow_at at t P)
+Tail-grow_at : (at : Option Node) (t : TreeToken) (P : Tree) → P.at ≡ at → Tail P → Tail (grow_at at t P)
 Tail-grow_at None t P e h = h
 Tail-grow_at (Some p) (Start name) P e h = Tail-new P (new_start p P name) (Some (new_start p P name)) h (λ q f. inl (same_Some _ _ f))
 Tail-grow_at (Some p) (Chars b) P e h = Tail-new P (Under p (length P.nodes) (Text b)) (Some p) h (λ q f. subst (λ (z : Node). In z (above p)) (same_Some _ _ f) (above_self p))
@@ -179,7 +179,7 @@ behind_end r (Under q t k ∷ ns) at at' e =
     ∙ (ap (λ z. ends (level (open_at r) - level q) ++ z) (sym (append_assoc (token_of k) (tokens_behind (Under q t k) ns at) (End ∷ [])))
     ∙ sym (append_assoc (ends (level (open_at r) - level q)) (token_of k ++ tokens_behind (Under q t k) ns at) (End ∷ [])))
 
-tokens_push_at : (at : Option Node) (t : Token) (P : Tree) → P.at ≡ at → may_come_at at t P.nodes ≡ true → Tail P → tokens_of (grow_at at t P) ≡ tokens_of P ++ t ∷ []
+tokens_push_at : (at : Option Node) (t : TreeToken) (P : Tree) → P.at ≡ at → may_come_at at t P.nodes ≡ true → Tail P → tokens_of (grow_at at t P) ≡ tokens_of P ++ t ∷ []
 tokens_push_at None t P e m h = absurd (false≢true m)
 tokens_push_at (Some p) (Start name) P e m h =
     let n : Node = new_start p P name in
@@ -197,12 +197,12 @@ tokens_push_at (Some (Under p s k)) End P e m h =
     let a : level (open_at l) - level p ≡ suc (level (open_at l) - level (Under p s k)) = omega arith in
     ap (λ z. tokens_from z (Some p)) h.2 ∙ (behind_end h.0 h.1 (Some (Under p s k)) (Some p) (ap ends a ∙ ends_push (level (open_at l) - level (Under p s k))) ∙ ap (λ z. z ++ End ∷ []) (sym (ap (λ z. tokens_from z (Some (Under p s k))) h.2) ∙ ap (tokens_from P.nodes) (sym e)))
 
-found_from : (ts : List Token) (P : Tree) → may_all ts P ≡ true → Tail P → tokens_of (grow_all ts P) ≡ tokens_of P ++ ts
+found_from : (ts : List TreeToken) (P : Tree) → may_all ts P ≡ true → Tail P → tokens_of (grow_all ts P) ≡ tokens_of P ++ ts
 found_from [] P m h = sym (append-nil _)
 found_from (t ∷ ts) P m h =
     let a = and_parts (may_come t P) (may_all ts (grow t P)) m in
     found_from ts (grow t P) a.1 (Tail-grow_at P.at t P refl h) ∙ (ap (λ z. z ++ ts) (tokens_push_at P.at t P refl a.0 h) ∙ append_assoc (tokens_of P) (t ∷ []) ts)
 
-pub tokens_found : (ts : List Token) → may_all ts opening ≡ true → tokens_of (grow_all ts opening) ≡ ts
+pub tokens_found : (ts : List TreeToken) → may_all ts opening ≡ true → tokens_of (grow_all ts opening) ≡ ts
 unfolding last_node
 tokens_found ts m = found_from ts opening m (Root, [], refl, λ q e. inl (same_Some _ _ e))

@@ -6,7 +6,7 @@ use Rattle.std.proofs.lemmas.Option.{same_Some}
 pub use Rattle.gcx_model.specs.Nodes.{Numbered, Rising, Grown}
 use Rattle.gcx_base.specs.declared.kind.Kind.{Kind}
 use Rattle.gcx_base.specs.declared.kind.Kind.TheVariants.{Element, Text}
-use Rattle.gcx_model.specs.Tree.{Node, Root, Under, serial_of, Tree, Token, Start, Chars, End, opening, grow, grow_at, grow_all}
+use Rattle.gcx_model.specs.Tree.{Node, Root, Under, serial_of, Tree, TreeToken, Start, Chars, End, opening, grow, grow_at, grow_all}
 use Rattle.gcx_base.specs.declared.steps.Step.{Step}
 use Rattle.gcx_model.specs.Paths.{hits, matches}
 use Rattle.tree_laws.proofs.Lists.{In, In-left, In-right, In-append, In-filter, In-kept}
@@ -52,26 +52,26 @@ pub Matches-from : (P : Tree) (n : ℕ) (path : List Step) (m : Node) → In m P
 Matches-from P n path m = In-kept (hits n path) m P.nodes
 
 -- (b) what a token adds to the nodes
-abbrev pub added_at : Option Node → Token → Tree → List Node
+abbrev pub added_at : Option Node → TreeToken → Tree → List Node
 added_at None t P = []
 added_at (Some p) (Start name) P = Under p (length P.nodes) (Element name) ∷ []
 added_at (Some p) (Chars b) P = Under p (length P.nodes) (Text b) ∷ []
 added_at (Some p) End P = []
 
-pub grow_nodes_at : (at : Option Node) (t : Token) (P : Tree) → (grow_at at t P).nodes ≡ P.nodes ++ added_at at t P
+pub grow_nodes_at : (at : Option Node) (t : TreeToken) (P : Tree) → (grow_at at t P).nodes ≡ P.nodes ++ added_at at t P
 grow_nodes_at None t P = sym (append-nil P.nodes)
 grow_nodes_at (Some p) (Start name) P = refl
 grow_nodes_at (Some p) (Chars b) P = refl
 grow_nodes_at (Some Root) End P = sym (append-nil P.nodes)
 grow_nodes_at (Some (Under p s k)) End P = sym (append-nil P.nodes)
 
-abbrev pub added : Token → Tree → List Node
+abbrev pub added : TreeToken → Tree → List Node
 added t P = added_at P.at t P
 
-pub grow_nodes : (t : Token) (P : Tree) → (grow t P).nodes ≡ P.nodes ++ added t P
+pub grow_nodes : (t : TreeToken) (P : Tree) → (grow t P).nodes ≡ P.nodes ++ added t P
 grow_nodes t P = grow_nodes_at P.at t P
 
-pub Matches-grow : (t : Token) (P : Tree) (n : ℕ) (path : List Step) → matches (grow t P) n path ≡ matches P n path ++ filter (hits n path) (added t P)
+pub Matches-grow : (t : TreeToken) (P : Tree) (n : ℕ) (path : List Step) → matches (grow t P) n path ≡ matches P n path ++ filter (hits n path) (added t P)
 Matches-grow t P n path = ap (filter (hits n path)) (grow_nodes t P) ∙ filter-append (hits n path) P.nodes (added t P)
 
 Grown-new : (P : Tree) (p : Node) (k : Kind) (at : Option Node) → Grown P → In p P.nodes → ((q : Node) → at ≡ Some q → In q (P.nodes ++ Under p (length P.nodes) k ∷ [])) → Grown (record { nodes = P.nodes ++ Under p (length P.nodes) k ∷ []; at = at })
@@ -94,19 +94,19 @@ Grown-new P p k at w i h = record {
   ];
 }
 
-Grown-grow_at : (at : Option Node) (t : Token) (P : Tree) → P.at ≡ at → Grown P → Grown (grow_at at t P)
+Grown-grow_at : (at : Option Node) (t : TreeToken) (P : Tree) → P.at ≡ at → Grown P → Grown (grow_at at t P)
 Grown-grow_at None t P e w = w
 Grown-grow_at (Some p) (Start name) P e w = Grown-new P p (Element name) (Some (Under p (length P.nodes) (Element name))) w (w.at_in p e) (λ q f. In-right q P.nodes (Under p (length P.nodes) (Element name) ∷ []) (inl (same_Some _ _ f)))
 Grown-grow_at (Some p) (Chars b) P e w = Grown-new P p (Text b) (Some p) w (w.at_in p e) (λ q f. In-left q P.nodes (Under p (length P.nodes) (Text b) ∷ []) (subst (λ (x : Node). In x P.nodes) (same_Some _ _ f) (w.at_in p e)))
 Grown-grow_at (Some Root) End P e w = record { numbered = w.numbered; upward = w.upward; at_in = λ q f. cc; below = w.below }
 Grown-grow_at (Some (Under p s k)) End P e w = record { numbered = w.numbered; upward = w.upward; at_in = λ q f. subst (λ (x : Node). In x P.nodes) (same_Some _ _ f) (w.upward p s k (w.at_in (Under p s k) e)); below = w.below }
 
-pub Grown-grow : (t : Token) (P : Tree) → Grown P → Grown (grow t P)
+pub Grown-grow : (t : TreeToken) (P : Tree) → Grown P → Grown (grow t P)
 Grown-grow t P w = Grown-grow_at P.at t P refl w
 
 pub Grown-opening : Grown opening
 Grown-opening = record { numbered = (refl, tt); upward = λ p s k i. elim i [ inl e ↦ cc | inr j ↦ absurd j ]; at_in = λ p e. inl (same_Some _ _ e); below = λ p s k i. elim i [ inl e ↦ cc | inr j ↦ absurd j ] }
 
-pub Grown-all : (ts : List Token) (P : Tree) → Grown P → Grown (grow_all ts P)
+pub Grown-all : (ts : List TreeToken) (P : Tree) → Grown P → Grown (grow_all ts P)
 Grown-all [] P w = w
 Grown-all (t ∷ ts) P w = Grown-all ts (grow t P) (Grown-grow t P w)

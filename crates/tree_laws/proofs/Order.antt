@@ -7,7 +7,7 @@ pub use Rattle.gcx_model.specs.Nodes.{Ordered}
 use Rattle.gcx_base.specs.declared.kind.Kind.{Kind}
 use Rattle.gcx_base.specs.declared.kind.Kind.TheVariants.{Element, Text}
 pub use Rattle.gcx_model.specs.Sound.{only_last}
-use Rattle.gcx_model.specs.Tree.{Node, Root, Under, serial_of, above, Tree, Token, Start, Chars, End, grow, grow_at}
+use Rattle.gcx_model.specs.Tree.{Node, Root, Under, serial_of, above, Tree, TreeToken, Start, Chars, End, grow, grow_at}
 use Rattle.gcx_base.specs.declared.steps.Step.{Step}
 use Rattle.gcx_model.specs.Paths.{hits, matches}
 use Rattle.tree_laws.proofs.Lists.{In, In-append}
@@ -43,14 +43,14 @@ Ordered-new P w o p k at e up = record {
         last (inl f) = let r = low a i in let h = ap serial_of f in absurd (omega arith)
         last (inr h) = o.behind p a b e h j l
 
-Ordered-grow_at : (at : Option Node) (t : Token) (P : Tree) → P.at ≡ at → Grown P → Ordered P → Ordered (grow_at at t P)
+Ordered-grow_at : (at : Option Node) (t : TreeToken) (P : Tree) → P.at ≡ at → Grown P → Ordered P → Ordered (grow_at at t P)
 Ordered-grow_at None t P e w o = o
 Ordered-grow_at (Some p) (Start name) P e w o = Ordered-new P w o p (Element name) _ e (λ q a f i. subst (λ (x : Node). In a (above x)) (sym (same_Some _ _ f)) i)
 Ordered-grow_at (Some p) (Chars b) P e w o = Ordered-new P w o p (Text b) _ e (λ q a f i. inr (subst (λ (x : Node). In a (above x)) (sym (same_Some _ _ f)) i))
 Ordered-grow_at (Some Root) End P e w o = record { behind = λ p a b f. cc; split = o.split }
 Ordered-grow_at (Some (Under p s k)) End P e w o = record { behind = λ q a b f i. o.behind (Under p s k) a b e (inr (subst (λ (x : Node). In a (above x)) (sym (same_Some _ _ f)) i)); split = o.split }
 
-pub Ordered-grow : (t : Token) (P : Tree) → Grown P → Ordered P → Ordered (grow t P)
+pub Ordered-grow : (t : TreeToken) (P : Tree) → Grown P → Ordered P → Ordered (grow t P)
 Ordered-grow t P w o = Ordered-grow_at P.at t P refl w o
 
 -- a rising list is known by its members

@@ -6,10 +6,10 @@ use Rattle.gcx_base.specs.declared.limits.Limits.{Limits}
 use Rattle.gcx_base.specs.Limits.{full_limits}
 use Rattle.gcx_base.specs.Utf8.{IsCharFront}
 use Rattle.gcx_model.specs.Document.{Nodes, tokens, tree_of}
-use Rattle.gcx_model.specs.Tree.{Tree, Token as Said, Start, Chars, End, opening, grow, grow_all}
+use Rattle.gcx_model.specs.Tree.{Tree, TreeToken as Said, Start, Chars, End, opening, grow, grow_all}
 use Rattle.gcx_model.specs.Faults.{FaultIs, none_yet, within_limit}
 use Rattle.gcx_model.specs.declared.fault.DocFault.TheVariants as fault
-use Rattle.doc_reader.specs.Standing.{ReaderView, Stands, Keeps, Accepted, waiting, reader_tokens, given_token, said_of, Token, EndOfDocument}
+use Rattle.doc_reader.specs.Standing.{ReaderView, Stands, KeepsAnswer, Accepted, waiting, reader_tokens, given_token, said_of, Token, EndOfDocument}
 use Rattle.tree_read.specs.declared.reading.DocumentEnd.TheVariants as end
 use Rattle.tree_read.specs.Document.{IsWhole, HasGrown}
 
@@ -21,7 +21,7 @@ pub record HasTaken (old new : ReaderView) (before after : Tree) : Type 0 where
   pub waits : waiting old ≡ tokens ++ waiting new
   pub tree_is : after ≡ grow_all (map said_of tokens) before
   pub stands : (lim : Limits) (b : List ℕ) (ended : Bool) (given : List Token) → Stands old lim b ended given → Stands new lim b ended (given ++ tokens)
-  pub keeps : Keeps old new
+  pub keeps : KeepsAnswer old new
 
 grow_more : (ts us : List Said) (P : Tree) → grow_all (ts ++ us) P ≡ grow_all us (grow_all ts P)
 grow_more [] us P = refl
@@ -32,7 +32,7 @@ grown_on xs ys P Q R h k = k ∙ ap (grow_all (map said_of ys)) h ∙ sym (grow_
 
 pub taken_on : (a b c : ReaderView) (s t u : Tree) (x : Token) → HasTaken a b s t → waiting b ≡ x ∷ waiting c
     → ((lim : Limits) (bs : List ℕ) (ended : Bool) (given : List Token) → Stands b lim bs ended given → Stands c lim bs ended (given ++ (x ∷ [])))
-    → Keeps b c → u ≡ grow (said_of x) t → HasTaken a c s u
+    → KeepsAnswer b c → u ≡ grow (said_of x) t → HasTaken a c s u
 taken_on a b c s t u x h waits on keeps tree = record {
   tokens = h.tokens ++ (x ∷ []);
   waits = h.waits ∙ ap (λ (l : List Token). h.tokens ++ l) waits ∙ sym (append_assoc h.tokens (x ∷ []) (waiting c));
@@ -63,7 +63,7 @@ stands_all ts a b c waits none so_far on lim bs ended given st =
     subst (λ (l : List Token). Stands c lim bs ended (given ++ l)) (all_taken ts a b waits none)
     (subst (λ (l : List Token). Stands c lim bs ended l) (append-nil (given ++ ts)) (on lim bs ended (given ++ ts) (so_far lim bs ended given st)))
 
-pub keeps_all : (a b c : ReaderView) → Keeps a b → Keeps b c → Keeps a c
+pub keeps_all : (a b c : ReaderView) → KeepsAnswer a b → KeepsAnswer b c → KeepsAnswer a c
 keeps_all a b c h k = record { finished = k.finished ∙ h.finished; answer = k.answer ∙ h.answer }
 
 pub grown_all : (a b : ReaderView) (s t : Tree) → HasTaken a b s t → waiting b ≡ [] → t ≡ grow_all (map said_of (waiting a)) s

@@ -7,7 +7,7 @@ use Rattle.gcx_base.specs.Limits.{full_limits}
 use Rattle.gcx_model.specs.Faults.{FaultIs}
 use Rattle.gcx_model.specs.Seen.{SeenIs}
 use Rattle.gcx_model.specs.declared.fault.DocFault.{DocFault}
-use Rattle.doc_reader.specs.Standing.{ReaderView, Stands, Keeps, Accepted, GivesBy, answer_by, answer_of, waiting, said_of, Token}
+use Rattle.doc_reader.specs.Standing.{ReaderView, Stands, KeepsAnswer, Accepted, GivesBy, answer_by, answer_of, waiting, said_of, Token}
 use Rattle.tree_read.specs.Document.{HasGiven, AreTokens}
 use Rattle.tree_read.proofs.Documents.{all_taken, none_at_start, said_back}
 
@@ -17,11 +17,11 @@ pub record HasKept (old new : ReaderView) (before after : List Token) : Type 0 w
   pub waits : waiting old ≡ tokens ++ waiting new
   pub list_is : after ≡ before ++ tokens
   pub stands : (lim : Limits) (b : List ℕ) (ended : Bool) (given : List Token) → Stands old lim b ended given → Stands new lim b ended (given ++ tokens)
-  pub keeps : Keeps old new
+  pub keeps : KeepsAnswer old new
 
 pub kept_on : (a b c : ReaderView) (s t u : List Token) (x : Token) → HasKept a b s t → waiting b ≡ x ∷ waiting c
     → ((lim : Limits) (bs : List ℕ) (ended : Bool) (given : List Token) → Stands b lim bs ended given → Stands c lim bs ended (given ++ (x ∷ [])))
-    → Keeps b c → u ≡ t ++ x ∷ [] → HasKept a c s u
+    → KeepsAnswer b c → u ≡ t ++ x ∷ [] → HasKept a c s u
 kept_on a b c s t u x h waits on keeps list = record {
   tokens = h.tokens ++ (x ∷ []);
   waits = h.waits ∙ ap (λ (l : List Token). h.tokens ++ l) waits ∙ sym (append_assoc h.tokens (x ∷ []) (waiting c));

@@ -9,7 +9,7 @@ use Rattle.gcx_io.specs.Writing.{joined}
 use Rattle.gcx_model.specs.Faults.{FaultIs}
 use Rattle.run_words.proofs.Sourcing.{clean_none, clean_more, on_clean, on_piece, source_none, source_more, source_end, source_fault}
 use Rattle.run_words.specs.Reading.{SourceGave, AreClean}
-use Rattle.run_words.specs.Stops.{More, End, Fault}
+use Rattle.run_words.specs.Stops.{More, EndAnswered, FaultAnswered}
 use Rattle.tree_read.specs.declared.reading.DocumentEnd.{DocumentEnd}
 use Rattle.tree_read.specs.declared.reading.DocumentEnd.TheVariants as end
 use Rattle.tree_read.specs.Document.{EndsBy, Finds, ReadsBy}
@@ -68,14 +68,14 @@ pub stops_at_fault : {E T : Type 0} (Is : List ℕ → T → Type 0) (H : List �
     → ReadsSource {E = E} b c (Err e) buf → ReadsBy Is a c (Err end.Fault)
 stops_at_fault Is H a b c count e buf h once = record {
   pieces = h.pieces;
-  stop = Fault;
+  stop = FaultAnswered;
   gave = source_fault a b c h.pieces e buf h.gave once;
-  reads_on = on_clean full_limits h.pieces Fault h.clean;
+  reads_on = on_clean full_limits h.pieces FaultAnswered h.clean;
   finds = (refl, h.clean.clean);
 }
 
 found_at_end : {U : Type 0} (Is : List ℕ → U → Type 0) (T P : Type 0) (e : DocumentEnd) (pieces : List (List ℕ)) → EndsBy {T = T} true (joined pieces) (Err e) P
-    → (e ≡ end.Fault → ⊥) → Finds Is (Err e) pieces End
+    → (e ≡ end.Fault → ⊥) → Finds Is (Err e) pieces EndAnswered
 found_at_end Is T P (end.Refused f) pieces h never = (tt, h)
 found_at_end Is T P end.Fault pieces h never = absurd (never refl)
 found_at_end Is T P end.Memory pieces h never = tt
@@ -91,9 +91,9 @@ pub stops_in_end : {E U : Type 0} (T P : Type 0) (Is : List ℕ → U → Type 0
     → EndsBy {T = T} true (joined h.pieces) (Err e) P → (e ≡ end.Fault → ⊥) → ReadsBy Is a c (Err e)
 stops_in_end T P Is H a b c count n buf e h once none size ends never = record {
   pieces = h.pieces;
-  stop = End;
+  stop = EndAnswered;
   gave = source_end a b c h.pieces n buf h.gave once none size;
-  reads_on = on_clean full_limits h.pieces End h.clean;
+  reads_on = on_clean full_limits h.pieces EndAnswered h.clean;
   finds = found_at_end Is T P e h.pieces ends never;
 }
 
@@ -101,9 +101,9 @@ pub ends_whole : {E U : Type 0} (Is : List ℕ → U → Type 0) (H : List ℕ �
     → ReadsSource {E = E} b c (Ok n) buf → n ≡ 0 → length buf ≡ 65536 → Is (joined h.pieces) u → ReadsBy Is a c (Ok u)
 ends_whole Is H u a b c count n buf h once none size whole = record {
   pieces = h.pieces;
-  stop = End;
+  stop = EndAnswered;
   gave = source_end a b c h.pieces n buf h.gave once none size;
-  reads_on = on_clean full_limits h.pieces End h.clean;
+  reads_on = on_clean full_limits h.pieces EndAnswered h.clean;
   finds = (refl, whole);
 }
 

@@ -8,14 +8,14 @@ use Rattle.gcx_base.specs.Limits.{full_limits}
 use Rattle.gcx_io.specs.Views.{SourceView}
 use Rattle.gcx_io.specs.Writing.{joined}
 use Rattle.gcx_model.specs.Document.{Nodes, tree_of, tokens}
-use Rattle.gcx_model.specs.Tree.{Tree, Token as Said, End as said_end, opening, grow_all}
+use Rattle.gcx_model.specs.Tree.{Tree, TreeToken as Said, End as said_end, opening, grow_all}
 use Rattle.gcx_model.specs.Grammar.{SpellsDocument}
 use Rattle.gcx_model.specs.Faults.{FaultIs}
 use Rattle.gcx_model.specs.Seen.{SeenIs}
 use Rattle.gcx_model.specs.declared.fault.DocFault.{DocFault}
 use Rattle.gcx_model.specs.declared.fault.DocFault.TheVariants as fault
 use Rattle.run_words.specs.Reading.{SourceGave, ReadsOn}
-use Rattle.run_words.specs.Stops.{Stop, End, Fault, IsCalm, is_end}
+use Rattle.run_words.specs.Stops.{Stop, EndAnswered, FaultAnswered, IsCalm, is_end}
 use Rattle.doc_reader.specs.Standing.{ReaderView, Stands, waiting, said_of, Token}
 use Rattle.tree_read.specs.declared.reading.DocumentEnd.{DocumentEnd}
 use Rattle.tree_read.specs.declared.reading.DocumentEnd.TheVariants as end
@@ -67,9 +67,9 @@ EndsBy ended bytes (Err end.Memory) P = ⊤
 
 -- what is found in the pieces that a document's source gave, by how the reading stopped; `Is` ties what is made to all bytes
 abbrev pub Finds : {T : Type 0} → (List ℕ → T → Type 0) → Result T DocumentEnd → List (List ℕ) → Stop → Type 0
-Finds Is (Ok x) pieces stop = (stop ≡ End) × Is (joined pieces) x
+Finds Is (Ok x) pieces stop = (stop ≡ EndAnswered) × Is (joined pieces) x
 Finds Is (Err (end.Refused f)) pieces stop = IsCalm stop × FaultIs full_limits (joined pieces) (is_end stop) (Some f)
-Finds Is (Err end.Fault) pieces stop = (stop ≡ Fault) × FaultIs full_limits (joined pieces) false None
+Finds Is (Err end.Fault) pieces stop = (stop ≡ FaultAnswered) × FaultIs full_limits (joined pieces) false None
 Finds Is (Err end.Memory) pieces stop = IsCalm stop
 
 -- The source gave these pieces, and this is found in them.

@@ -4,7 +4,7 @@ ghost use Rattle.std.specs.Io.{ReadsAtMost};
 ghost use Rattle.gcx_base.specs.declared.limits.Limits.{Limits};
 ghost use Rattle.gcx_io.specs.Calls.{ReadsSource};
 ghost use Rattle.gcx_model.specs.Tree.{grow_all};
-ghost use Rattle.doc_reader.specs.Standing.{IsOpen, Stands, Keeps, waiting, said_of, Token as Given};
+ghost use Rattle.doc_reader.specs.Standing.{IsOpen, Stands, KeepsAnswer, waiting, said_of, Token as Given};
 ghost use Rattle.tree_read.specs.Document.{HasGrown, IsWhole, EndsBy, ReadsDocument, SaysWhy};
 
 use doc_reader::Reader;
@@ -90,7 +90,7 @@ fn take_waiting(reader: &mut Reader, tree: &mut Tree) -> Result<(), Memory>
     ensures stands { OnOk result
         ((lim : Limits) (b : List ℕ) (ended : Bool) (given : List Given) → Stands reader.old lim b ended given
         → Stands reader.new lim b ended (given ++ waiting reader.old)) }
-    ensures keeps { Keeps reader.old reader.new }
+    ensures keeps { KeepsAnswer reader.old reader.new }
 {
     'tokens: while let Some(token) = reader.next() {
         tree.take(token)?;

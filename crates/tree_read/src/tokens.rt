@@ -1,7 +1,7 @@
 //! A document's tokens from its bytes.
 ghost use Rattle.std.specs.Prelude.{◌≡◌, ◌≤◌, ◌++◌, [], ℕ, List, Bool, true, false, map, OnOk, IfErr, IsErrOf};
 ghost use Rattle.gcx_base.specs.declared.limits.Limits.{Limits};
-ghost use Rattle.doc_reader.specs.Standing.{IsOpen, Stands, Keeps, waiting, said_of, Token as Given};
+ghost use Rattle.doc_reader.specs.Standing.{IsOpen, Stands, KeepsAnswer, waiting, said_of, Token as Given};
 ghost use Rattle.tree_read.specs.Document.{HasGiven, AreTokens, EndsBy, ReadsTokens, SaysWhy};
 
 use crate::reading::{DocumentEnd, PIECE, read_piece};
@@ -19,7 +19,7 @@ fn keep_waiting(reader: &mut Reader, tokens: &mut VecDeque<Token>) -> Result<(),
     ensures stands { OnOk result
         ((lim : Limits) (b : List ℕ) (ended : Bool) (given : List Given) → Stands reader.old lim b ended given
         → Stands reader.new lim b ended (given ++ waiting reader.old)) }
-    ensures keeps { Keeps reader.old reader.new }
+    ensures keeps { KeepsAnswer reader.old reader.new }
 {
     'tokens: while let Some(token) = reader.next() {
         tokens.push_back(token)?;

@@ -1,7 +1,7 @@
 -- The variable tree as a table that grows with each loop.
 use Rattle.std.proofs.Common.{ℕ, zero, suc, ◌≡◌, ◌+◌, List, [], ◌∷◌, ◌++◌, map, length, refl, sym, ap, ◌∙◌, subst, arith}
 use Rattle.std.proofs.lemmas.List.{length-append}
-use Rattle.gcx_model.specs.Core.{ItemTree, Write, Copy, For, If, Off, BodyTree, Nil, Then}
+use Rattle.gcx_model.specs.Core.{ItemTree, Write, Copy, For, If, SignOff, BodyTree, Nil, Then}
 use Rattle.gcx_model.specs.Members.{count}
 use Rattle.gcx_model.specs.Cores.{Good}
 use Rattle.gcx_model.specs.Variables.{Var, var0, var_of, set_var, tree_item, tree_body, var_tree, item_vars, vars}
@@ -30,7 +30,7 @@ mutual
   item_number (Copy x) u = refl
   item_number (For x y s d) u = ap suc (number d x)
   item_number (If c a b) u = omega (arith, length-append (loops a u) (loops b u), length-append (vars a) (vars b), number a u, number b u)
-  item_number (Off o) u = refl
+  item_number (SignOff o) u = refl
 
   -- there are as many loops as variables
   pub number : (d : BodyTree) (u : ℕ) → length (loops d u) ≡ length (vars d)
@@ -49,7 +49,7 @@ mutual
       ap (tree_body b u) (grown_body a u T (counts_left (suc (length T)) (vars a) (vars b) k))
       ∙ (grown_body b u (grown T (loops a u)) (counts_right (suc (length T)) (suc (length (grown T (loops a u)))) (vars a) (vars b) (omega (arith, grown_length T (loops a u), number a u)) k)
       ∙ ap (look var0) (sym (grown_more T (loops a u) (loops b u))))
-  grown_item (Off o) u T c = refl
+  grown_item (SignOff o) u T c = refl
 
   pub grown_body : (d : BodyTree) (u : ℕ) (T : List Var) → Counts (suc (length T)) (vars d) → tree_body d u (look var0 T) ≡ look var0 (grown T (loops d u))
   grown_body Nil u T c = refl

@@ -2,7 +2,7 @@
 -- The loops of a body, as it is read from the left (this project's).
 use Rattle.std.specs.Prelude.{ℕ, List, [], ◌∷◌, ◌++◌}
 use Rattle.gcx_base.specs.declared.steps.Step.{Step}
-use Rattle.gcx_model.specs.Core.{ItemTree, Write, Copy, For, If, Off, BodyTree, Nil, Then}
+use Rattle.gcx_model.specs.Core.{ItemTree, Write, Copy, For, If, SignOff, BodyTree, Nil, Then}
 
 -- a loop: the variable of the nearest loop round it, and 0 where there is none; its own variable, its parent and its step
 pub record Loop : Type 0 where
@@ -17,7 +17,7 @@ abbrev mutual
   item_loops (Copy x) u = []
   item_loops (For x y s d) u = record { outer = u; var = x; parent = y; step = s } ∷ loops d x
   item_loops (If c a b) u = loops a u ++ loops b u
-  item_loops (Off o) u = []
+  item_loops (SignOff o) u = []
 
   pub loops : BodyTree → (outer : ℕ) → List Loop
   loops Nil u = []

@@ -3,7 +3,7 @@ use Rattle.std.proofs.Common.{ℕ, ◌≡◌, ◌≤◌, Bool, true, false, ◌&
 use Rattle.std.specs.List.{list_all}
 use Rattle.std.proofs.lemmas.Bool.{and_parts, true≢false, false≢true}
 use Rattle.std.proofs.lemmas.List.{append_cancel_left}
-use Rattle.gcx_model.specs.Values.{is_digit, is_numeral}
+use Rattle.gcx_model.specs.Values.{is_digit_byte, is_numeral}
 use Rattle.base_laws.proofs.Lists.{cons_tail, cons_head}
 use Rattle.xq_lex.specs.declared.sign.Sign.{Sign}
 use Rattle.xq_lex.specs.Sign.{begins, sign_chars, sign_at, opens_comment}
@@ -93,9 +93,9 @@ no_variable cs kind none f rest e g = by f (record { chars = e; good = g })
 pub minus_digit : {X : Type 0} (w : List ℕ) (x y : List ℕ) → is_numeral w ≡ true → 45 ∷ x ≡ w ++ y → X
 minus_digit [] x y g e = absurd (false≢true g)
 minus_digit (d ∷ ds) x y g e =
-    let digit : is_digit d ≡ true = (and_parts (is_digit d) (list_all is_digit ds) (and_parts _ (is_digit d && list_all is_digit ds) g).1).0 in
+    let digit : is_digit_byte d ≡ true = (and_parts (is_digit_byte d) (list_all is_digit_byte ds) (and_parts _ (is_digit_byte d && list_all is_digit_byte ds) g).1).0 in
     let same : 45 ≡ d = cc (e) in
-    absurd (false≢true (subst (λ (c : ℕ). is_digit c ≡ true) (sym same) digit))
+    absurd (false≢true (subst (λ (c : ℕ). is_digit_byte c ≡ true) (sym same) digit))
 
 pub regroup : (minus : Bool) (w f rest : List ℕ) → number_chars minus w f ++ rest ≡ minus_chars minus ++ (w ++ (fraction_chars f ++ rest))
 regroup minus w f rest = append_assoc (minus_chars minus) (w ++ fraction_chars f) rest ∙ ap (λ (x : List ℕ). minus_chars minus ++ x) (append_assoc w (fraction_chars f) rest)

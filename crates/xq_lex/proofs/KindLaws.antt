@@ -4,7 +4,7 @@ use Rattle.std.proofs.lemmas.Bool.{and_parts, and_from, or_cases, or_from, cond-
 use Rattle.std.proofs.lemmas.Bool.Decides.{nat_tests}
 use Rattle.std.specs.Prelude.{nat_le}
 use Rattle.gcx_base.specs.Characters.{between, is_ascii_start, is_wide_start}
-use Rattle.gcx_model.specs.Values.{is_digit, is_numeral}
+use Rattle.gcx_model.specs.Values.{is_digit_byte, is_numeral}
 use Rattle.xq_lex.specs.declared.sign.Sign.{Sign}
 use Rattle.xq_lex.specs.declared.sign.Sign.TheVariants.{ParenOpen, ParenClose, BraceOpen, BraceClose, Comma, Slash, SlashSlash, Axis, Star, Eq, Ne, Lt, Le, Gt, Ge, EndTag, EmptyEnd}
 use Rattle.xq_lex.specs.Sign.{sign_chars}
@@ -49,7 +49,7 @@ begins_high c = or_high (is_ascii_start c) (is_wide_start c) c (ascii_high c) (w
 low_eqb : (c d : ℕ) → d < c → (c == d) ≡ false
 low_eqb c d h = ne_eqb c d (λ e. omega arith)
 
-digit_false : (c : ℕ) → 58 ≤ c → is_digit c ≡ false
+digit_false : (c : ℕ) → 58 ≤ c → is_digit_byte c ≡ false
 digit_false c h = grind (arith, nat_tests)
 
 name_kind : (c : ℕ) (cs : List ℕ) → may_begin c ≡ true → is_pair (c ∷ cs) ≡ false → kind_at (c ∷ cs) ≡ of_name
@@ -58,19 +58,19 @@ name_kind c cs begins pair =
     let high : 58 ≤ c = begins_high c begins in
     cond-false (c == 36) _ _ (low_eqb c 36 (omega arith))
     ∙ (cond-false (is_quote c) _ _ (or_from (c == 34) (c == 39) (low_eqb c 34 (omega arith)) (low_eqb c 39 (omega arith)))
-    ∙ (cond-false ((c == 45) || is_digit c) _ _ (or_from (c == 45) (is_digit c) (low_eqb c 45 (omega arith)) (digit_false c high))
+    ∙ (cond-false ((c == 45) || is_digit_byte c) _ _ (or_from (c == 45) (is_digit_byte c) (low_eqb c 45 (omega arith)) (digit_false c high))
     ∙ cond-true (may_begin c && not (is_pair (c ∷ cs))) of_name of_sign (and_from (may_begin c) (not (is_pair (c ∷ cs))) begins (not_from_false (is_pair (c ∷ cs)) pair))))
 
-digit_range : (c : ℕ) → is_digit c ≡ true → (48 ≤ c) × (c ≤ 57)
+digit_range : (c : ℕ) → is_digit_byte c ≡ true → (48 ≤ c) × (c ≤ 57)
 digit_range c e = let both : (nat_le 48 c ≡ true) × (nat_le c 57 ≡ true) = and_parts (nat_le 48 c) (nat_le c 57) e in (leb-true 48 c both.0, leb-true c 57 both.1)
 
-digit_kind : (c : ℕ) (cs : List ℕ) → is_digit c ≡ true → kind_at (c ∷ cs) ≡ of_number
+digit_kind : (c : ℕ) (cs : List ℕ) → is_digit_byte c ≡ true → kind_at (c ∷ cs) ≡ of_number
 unfolding kind_at
 digit_kind c cs e =
     let range : (48 ≤ c) × (c ≤ 57) = digit_range c e in
     cond-false (c == 36) _ _ (low_eqb c 36 (omega arith))
     ∙ (cond-false (is_quote c) _ _ (or_from (c == 34) (c == 39) (low_eqb c 34 (omega arith)) (low_eqb c 39 (omega arith)))
-    ∙ cond-true ((c == 45) || is_digit c) of_number _ (either (c == 45) (is_digit c) e))
+    ∙ cond-true ((c == 45) || is_digit_byte c) of_number _ (either (c == 45) (is_digit_byte c) e))
   where
     either : (a b : Bool) → b ≡ true → (a || b) ≡ true
     either true b e = refl
@@ -121,6 +121,6 @@ kind_is (number true whole fraction) rest good = minus_kind _
 kind_is (number false [] fraction) rest good = cc (good)
 kind_is (number false (d ∷ ds) fraction) rest good =
     let whole : is_numeral (d ∷ ds) ≡ true = (and_parts (is_numeral (d ∷ ds)) _ good).0 in
-    digit_kind d _ (and_parts (is_digit d) _ (and_parts _ (is_digit d && _) whole).1).0
+    digit_kind d _ (and_parts (is_digit_byte d) _ (and_parts _ (is_digit_byte d && _) whole).1).0
 kind_is (string quote parts) rest good = string_kind quote _ good.0
 kind_is (sign s) rest good = sign_kind s rest

@@ -6,7 +6,7 @@ use Rattle.std.proofs.lemmas.Bool.{and_parts, and_from, or_from, cond-true, not_
 use Rattle.std.proofs.Math.Seq.{take-append_seam}
 use Rattle.gcx_base.specs.Characters.{is_start_char, is_part_char}
 use Rattle.gcx_base.specs.Name.{is_name, IsNameBytes}
-use Rattle.gcx_model.specs.Values.{is_digit}
+use Rattle.gcx_model.specs.Values.{is_digit_byte}
 use Rattle.xq_lex.specs.Strings.{is_quote}
 use Rattle.xq_lex.specs.Found.{of_variable, of_string, of_number, of_name, of_sign, kind_at}
 use Rattle.xq_lex.specs.Names.{may_begin, may_go_on, is_pair, has_pair, is_query_name, parts_at, name_at}
@@ -137,7 +137,7 @@ pub name_some : (text : List ℕ) → kind_at text ≡ of_name → name_at text 
 unfolding kind_at
 name_some [] kind none = cc (kind)
 name_some (c ∷ cs) kind none =
-    let begins : (may_begin c && not (is_pair (c ∷ cs))) ≡ true = name_case (c == 36) (is_quote c) ((c == 45) || is_digit c) (may_begin c && not (is_pair (c ∷ cs))) kind in
+    let begins : (may_begin c && not (is_pair (c ∷ cs))) ≡ true = name_case (c == 36) (is_quote c) ((c == 45) || is_digit_byte c) (may_begin c && not (is_pair (c ∷ cs))) kind in
     let both : (may_begin c ≡ true) × (not (is_pair (c ∷ cs)) ≡ true) = and_parts (may_begin c) (not (is_pair (c ∷ cs))) begins in
     let goes : may_go c cs ≡ true = and_from (may_go_on c) (not (is_pair (c ∷ cs))) (part_begins c both.0) both.1 in
     let found : c ∷ parts_at cs ≡ [] = sym (cond-true (may_begin c) (parts_at (c ∷ cs)) [] both.0 ∙ cond-true (may_go c cs) (c ∷ parts_at cs) [] goes) ∙ none in

@@ -5,7 +5,7 @@ use Rattle.std.specs.List.{list_all}
 use Rattle.std.proofs.lemmas.Bool.{and_parts, and_from, cond-true, lt-ltb}
 use Rattle.std.proofs.lemmas.List.{append_cancel_left, append-nil}
 use Rattle.std.proofs.Math.Seq.{take-append_seam}
-use Rattle.gcx_model.specs.Values.{is_digit, is_numeral}
+use Rattle.gcx_model.specs.Values.{is_digit_byte, is_numeral}
 use Rattle.xq_lex.specs.Numbers.{fraction_chars, is_number, digits_at, fraction_at}
 use Rattle.xq_lex.specs.Form.{Form, number}
 use Rattle.xq_lex.specs.Found.{number_from, unsigned_at}
@@ -13,29 +13,29 @@ use Rattle.xq_lex.specs.Found.{number_from, unsigned_at}
 -- the digits at the front and what follows
 pub record HasDigits (text digits rest : List ℕ) : Type 0 where
   pub chars : text ≡ digits ++ rest
-  pub good : list_all is_digit digits ≡ true
+  pub good : list_all is_digit_byte digits ≡ true
 
-digits_step : (c : ℕ) (cs : List ℕ) (b : Bool) → is_digit c ≡ b → HasDigits cs (digits_at cs) (drop (length (digits_at cs)) cs) →
+digits_step : (c : ℕ) (cs : List ℕ) (b : Bool) → is_digit_byte c ≡ b → HasDigits cs (digits_at cs) (drop (length (digits_at cs)) cs) →
     let found = cond b (c ∷ digits_at cs) [] in HasDigits (c ∷ cs) found (drop (length found) (c ∷ cs))
-digits_step c cs true e h = record { chars = ap (λ x. c ∷ x) h.chars; good = and_from (is_digit c) (list_all is_digit (digits_at cs)) e h.good }
+digits_step c cs true e h = record { chars = ap (λ x. c ∷ x) h.chars; good = and_from (is_digit_byte c) (list_all is_digit_byte (digits_at cs)) e h.good }
 digits_step c cs false e h = record { chars = refl; good = refl }
 
 pub digits_front : (text : List ℕ) → HasDigits text (digits_at text) (drop (length (digits_at text)) text)
 digits_front [] = record { chars = refl; good = refl }
-digits_front (c ∷ cs) = digits_step c cs (is_digit c) refl (digits_front cs)
+digits_front (c ∷ cs) = digits_step c cs (is_digit_byte c) refl (digits_front cs)
 
 -- all digits are found, and then more
-pub digits_at-append : (digits rest : List ℕ) → list_all is_digit digits ≡ true → digits_at (digits ++ rest) ≡ digits ++ digits_at rest
+pub digits_at-append : (digits rest : List ℕ) → list_all is_digit_byte digits ≡ true → digits_at (digits ++ rest) ≡ digits ++ digits_at rest
 digits_at-append [] rest good = refl
 digits_at-append (d ∷ ds) rest good =
-    let both : (is_digit d ≡ true) × (list_all is_digit ds ≡ true) = and_parts (is_digit d) (list_all is_digit ds) good in
-    cond-true (is_digit d) (d ∷ digits_at (ds ++ rest)) [] both.0 ∙ ap (λ x. d ∷ x) (digits_at-append ds rest both.1)
+    let both : (is_digit_byte d ≡ true) × (list_all is_digit_byte ds ≡ true) = and_parts (is_digit_byte d) (list_all is_digit_byte ds) good in
+    cond-true (is_digit_byte d) (d ∷ digits_at (ds ++ rest)) [] both.0 ∙ ap (λ x. d ∷ x) (digits_at-append ds rest both.1)
 
 -- the fraction at the front and what follows
 pub record HasFraction (text fraction : List ℕ) : Type 0 where
   pub rest : List ℕ
   pub chars : text ≡ fraction_chars fraction ++ rest
-  pub good : list_all is_digit fraction ≡ true
+  pub good : list_all is_digit_byte fraction ≡ true
 
 point_step : (c : ℕ) (cs found : List ℕ) → c ≡ 46 → HasDigits cs found (drop (length found) cs) → HasFraction (c ∷ cs) found
 point_step c cs [] e h = record { rest = c ∷ cs; chars = refl; good = refl }
@@ -68,7 +68,7 @@ number_found minus text (d ∷ ds) behind form e h =
       rest = f.rest;
       is = cc (e);
       chars = h.chars ∙ ap (λ (x : List ℕ). (d ∷ ds) ++ x) f.chars;
-      good = and_from (is_numeral (d ∷ ds)) (list_all is_digit (fraction_at behind)) (and_from (nat_lt 0 (length (d ∷ ds))) (list_all is_digit (d ∷ ds)) (lt-ltb 0 (length (d ∷ ds)) (omega arith)) h.good) f.good;
+      good = and_from (is_numeral (d ∷ ds)) (list_all is_digit_byte (fraction_at behind)) (and_from (nat_lt 0 (length (d ∷ ds))) (list_all is_digit_byte (d ∷ ds)) (lt-ltb 0 (length (d ∷ ds)) (omega arith)) h.good) f.good;
     }
 
 pub unsigned_front : (minus : Bool) (text : List ℕ) (form : Form) → unsigned_at minus text ≡ Some form → HasNumber text minus form
@@ -92,8 +92,8 @@ no_elements (x ∷ xs) e = absurd (omega arith)
 nothing_more : (xs ys : List ℕ) → length ys ≡ 0 → xs ++ ys ≡ xs
 nothing_more xs ys e = ap (λ (y : List ℕ). xs ++ y) (no_elements ys e) ∙ append-nil xs
 
-numeral : (d : ℕ) (ds : List ℕ) → list_all is_digit (d ∷ ds) ≡ true → is_numeral (d ∷ ds) ≡ true
-numeral d ds good = and_from (nat_lt 0 (length (d ∷ ds))) (list_all is_digit (d ∷ ds)) (lt-ltb 0 (length (d ∷ ds)) (omega arith)) good
+numeral : (d : ℕ) (ds : List ℕ) → list_all is_digit_byte (d ∷ ds) ≡ true → is_numeral (d ∷ ds) ≡ true
+numeral d ds good = and_from (nat_lt 0 (length (d ∷ ds))) (list_all is_digit_byte (d ∷ ds)) (lt-ltb 0 (length (d ∷ ds)) (omega arith)) good
 
 no_fraction_chars : (xs : List ℕ) → length (fraction_chars xs) ≡ 0 → xs ≡ []
 no_fraction_chars [] e = refl
@@ -112,7 +112,7 @@ longer_whole minus d ds more rest behind fraction h f =
       tail = f.rest;
       is = refl;
       chars = chars;
-      good = and_from (is_numeral (d ∷ (ds ++ more))) (list_all is_digit fraction) (numeral d (ds ++ more) h.good) f.good;
+      good = and_from (is_numeral (d ∷ (ds ++ more))) (list_all is_digit_byte fraction) (numeral d (ds ++ more) h.good) f.good;
       short = omega arith;
       same = λ e.
           let none : length more ≡ 0 = omega arith in
@@ -138,7 +138,7 @@ pub number_longer : (minus : Bool) (whole fraction rest : List ℕ) → is_numbe
     LongerNumber minus whole fraction rest (unsigned_at minus (whole ++ (fraction_chars fraction ++ rest)))
 number_longer minus [] fraction rest good = cc (good)
 number_longer minus (d ∷ ds) [] rest good =
-    let digits : list_all is_digit (d ∷ ds) ≡ true = (and_parts (nat_lt 0 (length (d ∷ ds))) (list_all is_digit (d ∷ ds)) (and_parts (is_numeral (d ∷ ds)) true good).0).1 in
+    let digits : list_all is_digit_byte (d ∷ ds) ≡ true = (and_parts (nat_lt 0 (length (d ∷ ds))) (list_all is_digit_byte (d ∷ ds)) (and_parts (is_numeral (d ∷ ds)) true good).0).1 in
     let text : List ℕ = (d ∷ ds) ++ rest in
     let same : digits_at text ≡ d ∷ (ds ++ digits_at rest) = digits_at-append (d ∷ ds) rest digits in
     let behind : List ℕ = drop (length (digits_at text)) text in
@@ -146,8 +146,8 @@ number_longer minus (d ∷ ds) [] rest good =
     subst (λ (x : List ℕ). LongerNumber minus (d ∷ ds) [] rest (number_from minus x behind)) (sym same)
     (longer_whole minus d ds (digits_at rest) rest behind (fraction_at behind) h (fraction_front behind))
 number_longer minus (d ∷ ds) (f ∷ fs) rest good =
-    let both : (is_numeral (d ∷ ds) ≡ true) × (list_all is_digit (f ∷ fs) ≡ true) = and_parts (is_numeral (d ∷ ds)) (list_all is_digit (f ∷ fs)) good in
-    let digits : list_all is_digit (d ∷ ds) ≡ true = (and_parts (nat_lt 0 (length (d ∷ ds))) (list_all is_digit (d ∷ ds)) both.0).1 in
+    let both : (is_numeral (d ∷ ds) ≡ true) × (list_all is_digit_byte (f ∷ fs) ≡ true) = and_parts (is_numeral (d ∷ ds)) (list_all is_digit_byte (f ∷ fs)) good in
+    let digits : list_all is_digit_byte (d ∷ ds) ≡ true = (and_parts (nat_lt 0 (length (d ∷ ds))) (list_all is_digit_byte (d ∷ ds)) both.0).1 in
     let point : List ℕ = 46 ∷ f ∷ (fs ++ rest) in
     let text : List ℕ = (d ∷ ds) ++ point in
     let same : digits_at text ≡ d ∷ ds = digits_at-append (d ∷ ds) point digits ∙ append-nil (d ∷ ds) in
@@ -155,12 +155,12 @@ number_longer minus (d ∷ ds) (f ∷ fs) rest good =
     let h : HasDigits text (d ∷ ds) behind = subst (λ (x : List ℕ). HasDigits text x behind) same (digits_front text) in
     let left : behind ≡ point = sym (append_cancel_left (d ∷ ds) point behind h.chars) in
     let fraction : fraction_at point ≡ f ∷ (fs ++ digits_at rest) = digits_at-append (f ∷ fs) rest both.1 in
-    let all : list_all is_digit (f ∷ (fs ++ digits_at rest)) ≡ true = subst (λ (x : List ℕ). list_all is_digit x ≡ true) fraction (fraction_front point).good in
+    let all : list_all is_digit_byte (f ∷ (fs ++ digits_at rest)) ≡ true = subst (λ (x : List ℕ). list_all is_digit_byte x ≡ true) fraction (fraction_front point).good in
     subst (λ (x : List ℕ). LongerNumber minus (d ∷ ds) (f ∷ fs) rest (number_from minus x behind)) (sym same)
     (subst (λ (x : List ℕ). LongerNumber minus (d ∷ ds) (f ∷ fs) rest (Some (number minus (d ∷ ds) (fraction_at x)))) (sym left)
     (subst (λ (x : List ℕ). LongerNumber minus (d ∷ ds) (f ∷ fs) rest (Some (number minus (d ∷ ds) x))) (sym fraction)
     (longer_fraction minus d ds f fs (digits_at rest) rest (drop (length (digits_at rest)) rest)
-    (and_from (is_numeral (d ∷ ds)) (list_all is_digit (f ∷ (fs ++ digits_at rest))) both.0 all) (digits_front rest).chars)))
+    (and_from (is_numeral (d ∷ ds)) (list_all is_digit_byte (f ∷ (fs ++ digits_at rest))) both.0 all) (digits_front rest).chars)))
 
 -- the digits are as many as were counted
 pub counted_digits : (text : List ℕ) (len : ℕ) → len ≡ length (digits_at text) → take len text ≡ digits_at text

@@ -3,7 +3,7 @@ use Rattle.std.proofs.Common.{ℕ, ◌≡◌, ◌==◌, Bool, true, false, not, 
 use Rattle.std.specs.List.{list_all}
 use Rattle.std.specs.Char.{is_digit}
 use Rattle.std.proofs.lemmas.Bool.{and_parts, and_from, cond-false, not-true, not_from_false, false≢true}
-use Rattle.doc_chars.specs.Reference.{number, all_digits, IsNumber, Refers, lt, gt, amp, apos, quot, decimal, hexadecimal}
+use Rattle.doc_chars.specs.Reference.{radix_value, all_digits, IsNumber, Refers, lt, gt, amp, apos, quot, by_decimal, by_hexadecimal}
 
 -- before the first semicolon and behind it
 before : List ℕ → List ℕ
@@ -34,7 +34,7 @@ after_is (x ∷ xs) r free =
 -- what stands before the semicolon, and what it stands for
 abbrev numeric : List ℕ → ℕ
 numeric [] = 0
-numeric (c ∷ cs) = cond (c == 120) (number 16 cs) (number 10 (c ∷ cs))
+numeric (c ∷ cs) = cond (c == 120) (radix_value 16 cs) (radix_value 10 (c ∷ cs))
 
 abbrev behind_a : List ℕ → ℕ
 behind_a [] = 0
@@ -67,7 +67,7 @@ decimal_value : (ds : List ℕ) (c : ℕ) → IsNumber 10 ds c → numeric ds �
 decimal_value [] c n = absurd (omega (arith, n.some))
 decimal_value (d ∷ ds) c n =
     let digit : is_digit d 10 ≡ true = (and_parts (is_digit d 10) (all_digits 10 ds) n.are).0 in
-    cond-false (d == 120) (number 16 ds) (number 10 (d ∷ ds)) (other d 120 10 digit refl) ∙ n.value
+    cond-false (d == 120) (radix_value 16 ds) (radix_value 10 (d ∷ ds)) (other d 120 10 digit refl) ∙ n.value
 
 body_of : (text : List ℕ) (c : ℕ) → Refers text c → HasBody text c
 body_of text c (lt e v) = record { body = 108 ∷ 116 ∷ []; is = e; free = refl; value = sym v }
@@ -75,8 +75,8 @@ body_of text c (gt e v) = record { body = 103 ∷ 116 ∷ []; is = e; free = ref
 body_of text c (amp e v) = record { body = 97 ∷ 109 ∷ 112 ∷ []; is = e; free = refl; value = sym v }
 body_of text c (apos e v) = record { body = 97 ∷ 112 ∷ 111 ∷ 115 ∷ []; is = e; free = refl; value = sym v }
 body_of text c (quot e v) = record { body = 113 ∷ 117 ∷ 111 ∷ 116 ∷ []; is = e; free = refl; value = sym v }
-body_of text c (decimal ds n e) = record { body = 35 ∷ ds; is = e; free = digits_free 10 ds refl n.are; value = decimal_value ds c n }
-body_of text c (hexadecimal ds n e) = record { body = 35 ∷ 120 ∷ ds; is = e; free = digits_free 16 ds refl n.are; value = n.value }
+body_of text c (by_decimal ds n e) = record { body = 35 ∷ ds; is = e; free = digits_free 10 ds refl n.are; value = decimal_value ds c n }
+body_of text c (by_hexadecimal ds n e) = record { body = 35 ∷ 120 ∷ ds; is = e; free = digits_free 16 ds refl n.are; value = n.value }
 
 whole : (s body r : List ℕ) → s ≡ body ++ 59 ∷ [] → s ++ r ≡ body ++ 59 ∷ r
 whole s body r e = ap (λ (x : List ℕ). x ++ r) e ∙ append_assoc body (59 ∷ []) r

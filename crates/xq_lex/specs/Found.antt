@@ -1,7 +1,7 @@
 -- This follows the code, for its proofs: no public clause speaks of it.
 -- What a token is by its first characters, and what is answered of the text that it begins.
 use Rattle.std.specs.Prelude.{ℕ, ◌==◌, Bool, not, ◌&&◌, ◌||◌, if◌then◌else◌, List, [], ◌∷◌, drop, Option, Some, None, length}
-use Rattle.gcx_model.specs.Values.{is_digit}
+use Rattle.gcx_model.specs.Values.{is_digit_byte}
 use Rattle.xq_lex.specs.Names.{may_begin, is_pair}
 use Rattle.xq_lex.specs.Numbers.{digits_at, fraction_at}
 use Rattle.xq_lex.specs.Strings.{is_quote}
@@ -21,7 +21,7 @@ kind_at [] = of_nothing
 kind_at (c ∷ cs) =
     if c == 36 then of_variable
     else if is_quote c then of_string
-    else if (c == 45) || is_digit c then of_number
+    else if (c == 45) || is_digit_byte c then of_number
     else if may_begin c && not (is_pair (c ∷ cs)) then of_name
     else of_sign
 

@@ -1,7 +1,7 @@
 -- Numbers in a query: their text, their value and the range of values (this project's).
 use Rattle.std.specs.Prelude.{ℕ, ◌+◌, ◌-◌, ◌*◌, ◌^◌, ◌==◌, ℤ, Bool, true, false, ◌&&◌, ◌||◌, nat_lt, if◌then◌else◌, List, [], ◌∷◌, ◌++◌, length}
 use Rattle.std.specs.List.{list_all}
-use Rattle.gcx_model.specs.Values.{digits_from, is_digit, is_numeral, with_sign}
+use Rattle.gcx_model.specs.Values.{digits_from, is_digit_byte, is_numeral, with_sign}
 
 -- The text of a number: an optional `-`, digits, and optionally a point and digits.
 abbrev pub minus_chars : Bool → List ℕ
@@ -18,7 +18,7 @@ number_chars minus whole fraction = minus_chars minus ++ (whole ++ fraction_char
 
 -- at least one digit before the point, and any number behind it
 abbrev pub is_number : (whole fraction : List ℕ) → Bool
-is_number whole fraction = is_numeral whole && list_all is_digit fraction
+is_number whole fraction = is_numeral whole && list_all is_digit_byte fraction
 
 -- The value in units of 10^-18, where at most 18 digits stand behind the point.
 abbrev pub size_of : (whole fraction : List ℕ) → ℕ
@@ -38,7 +38,7 @@ is_wide minus whole fraction = nat_lt (most_of minus) (digits_from 0 whole) || n
 -- The longest number at the front.
 abbrev pub digits_at : List ℕ → List ℕ
 digits_at [] = []
-digits_at (c ∷ cs) = if is_digit c then c ∷ digits_at cs else []
+digits_at (c ∷ cs) = if is_digit_byte c then c ∷ digits_at cs else []
 
 -- the digits behind a point at the front
 abbrev pub fraction_at : List ℕ → List ℕ

@@ -2,14 +2,14 @@
 ghost use Rattle.std.specs.Prelude.{◌≡◌, ◌≤◌, ◌*◌, ◌-◌, ◌^◌, ◌∷◌, ◌++◌, [], true, false, length, drop, MatchOption, IfSome, FitsSigned};
 ghost use Rattle.std.specs.List.{list_all};
 ghost use Rattle.std.specs.Int.{w128};
-ghost use Rattle.gcx_model.specs.Values.{digits_from, is_digit};
+ghost use Rattle.gcx_model.specs.Values.{digits_from, is_digit_byte};
 ghost use Rattle.xq_lex.specs.Numbers.{digits_at, fraction_at, fraction_chars, is_wide, most_of, units_of};
 
 /// How many digits may stand behind the point.
 const PLACES: usize = 18;
 
 pub(crate) fn is_digit(c: char) -> bool
-    ensures { result ≡ is_digit c }
+    ensures { result ≡ is_digit_byte c }
 {
     c.is_ascii_digit()
 }
@@ -18,7 +18,7 @@ pub(crate) fn is_digit(c: char) -> bool
 pub(crate) fn split_digits(text: &[char]) -> (&[char], &[char])
     ensures digits { result.0.now ≡ digits_at text.now }
     ensures rest { result.1.now ≡ drop (length (digits_at text.now)) text.now }
-    ensures all { list_all is_digit result.0.now ≡ true }
+    ensures all { list_all is_digit_byte result.0.now ≡ true }
 {
     let mut len = 0;
     let mut rest = text;
@@ -36,7 +36,7 @@ pub(crate) fn split_digits(text: &[char]) -> (&[char], &[char])
 pub(crate) fn split_fraction(text: &[char]) -> (&[char], &[char])
     ensures fraction { result.0.now ≡ fraction_at text.now }
     ensures rest { text.now ≡ fraction_chars result.0.now ++ result.1.now }
-    ensures all { list_all is_digit result.0.now ≡ true }
+    ensures all { list_all is_digit_byte result.0.now ≡ true }
 {
     match text.split_first() {
         Some((first, behind)) if *first == '.' => {
@@ -53,7 +53,7 @@ pub(crate) fn split_fraction(text: &[char]) -> (&[char], &[char])
 
 /// One digit more behind those of a number. None where it is 2^64 or more.
 fn with_digit(number: u64, digit: char) -> Option<u64>
-    requires { is_digit digit ≡ true }
+    requires { is_digit_byte digit ≡ true }
     ensures { let longer = digits_from number (digit ∷ []) in
         MatchOption result (2 ^ 64 ≤ longer) (λ n. n ≡ longer) }
 {
@@ -63,7 +63,7 @@ fn with_digit(number: u64, digit: char) -> Option<u64>
 
 /// The number that the digits write. None where it is 2^64 or more.
 fn digits_value(digits: &[char]) -> Option<u64>
-    requires { list_all is_digit digits.now ≡ true }
+    requires { list_all is_digit_byte digits.now ≡ true }
     ensures { let whole = digits_from 0 digits.now in
         MatchOption result (2 ^ 64 ≤ whole) (λ n. n ≡ whole) }
 {
@@ -76,7 +76,7 @@ fn digits_value(digits: &[char]) -> Option<u64>
 
 /// What at most 18 digits behind the point count in units of 10^-18.
 fn fraction_units(digits: &[char]) -> u64
-    requires digits { list_all is_digit digits.now ≡ true }
+    requires digits { list_all is_digit_byte digits.now ≡ true }
     requires few { length digits.now ≤ 18 }
     ensures { result ≡ digits_from 0 digits.now * 10 ^ (18 - length digits.now) }
 {
@@ -95,8 +95,8 @@ fn most_of(minus: bool) -> u64
 
 /// The number in units of 10^-18. None where it is out of range.
 pub(crate) fn units_of(minus: bool, whole: &[char], fraction: &[char]) -> Option<i128>
-    requires whole { list_all is_digit whole.now ≡ true }
-    requires fraction { list_all is_digit fraction.now ≡ true }
+    requires whole { list_all is_digit_byte whole.now ≡ true }
+    requires fraction { list_all is_digit_byte fraction.now ≡ true }
     ensures value { MatchOption result (is_wide minus whole.now fraction.now ≡ true)
         (λ units. (is_wide minus whole.now fraction.now ≡ false) × (units ≡ units_of minus whole.now fraction.now)) }
     ensures fits { IfSome result (λ units. FitsSigned w128 units) }

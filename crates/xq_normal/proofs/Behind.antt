@@ -1,7 +1,7 @@
 -- Bodies one behind the other, and a number by which bodies shrink.
 use Rattle.std.proofs.Common.{◌≡◌, ℕ, suc, ◌+◌, ◌==◌, Bool, true, false, cond, ◌||◌, List, [], ◌∷◌, ◌++◌, length, map, refl, sym, ◌∙◌, ap, arith}
 use Rattle.std.proofs.lemmas.Bool.{true≢false, ne_eqb}
-use Rattle.gcx_model.specs.Core.{CondTree, ItemTree, Write, Copy, For, If, Off, BodyTree, Nil, Then}
+use Rattle.gcx_model.specs.Core.{CondTree, ItemTree, Write, Copy, For, If, SignOff, BodyTree, Nil, Then}
 use Rattle.gcx_model.specs.declared.item.Item.{Item}
 use Rattle.gcx_model.specs.ItemView.{item_tree, body_of}
 use Rattle.gcx_model.specs.Normal.{join, one, half, has_loop, spread, branch}
@@ -39,7 +39,7 @@ abbrev mutual
   weight (Copy x) = 0
   weight (For x y s d) = suc (suc (weights d))
   weight (If c a b) = suc (weights a + weights b)
-  weight (Off o) = 0
+  weight (SignOff o) = 0
 
   pub weights : BodyTree → ℕ
   weights Nil = 0

@@ -38,12 +38,12 @@ mutual
   moved-expr (query.Seq es) names k = moved-exprs es names k
   moved-expr (query.Elem name es) names k =
       ap (λ d. Then (Write (start_tag name)) d) (moved-join (raw_exprs es names k) (one (Write (end_tag name))) ∙ ap (λ d. join d (one (Write (end_tag name)))) (moved-exprs es names k))
-  moved-expr (query.Path path) names k = moved-nest (start_var names path.start) path.steps k (λ y. one (Copy y))
-  moved-expr (query.For cs f e) names k =
+  moved-expr (query.QueryPath path) names k = moved-nest (start_var names path.start) path.steps k (λ y. one (Copy y))
+  moved-expr (query.QueryFor cs f e) names k =
       moved-clauses cs names k (λ inner j. raw_filtered f inner (raw_expr e inner j))
       ∙ ap (λ (g : Names → ℕ → BodyTree). normal_clauses cs names k g)
       (fun_ext (λ ns. fun_ext (λ j. moved-filtered f ns (raw_expr e ns j) ∙ ap (λ d. guarded f ns d) (moved-expr e ns j))))
-  moved-expr (query.If c a b) names k =
+  moved-expr (query.QueryIf c a b) names k =
       join-nil (branch (normal_cond c names) (moved (raw_expr a names k)) (moved (raw_expr b names (k + loops a))))
       ∙ (ap (λ d. branch (normal_cond c names) d (moved (raw_expr b names (k + loops a)))) (moved-expr a names k)
       ∙ ap (λ d. branch (normal_cond c names) (normal_expr a names k) d) (moved-expr b names (k + loops a)))

@@ -2,7 +2,7 @@
 use Rattle.std.proofs.Common.{◌≡◌, ℕ, ◌+◌, ◌*◌, Bool, true, false, not, cond, ◌&&◌, ◌||◌, ◌<◌, List, length, get_or, take, refl, sym, ◌∙◌, ap, arith}
 use Rattle.std.proofs.Math.Nat.{add-mul}
 use Rattle.std.proofs.lemmas.Bool.{true≢false}
-use Rattle.gcx_model.specs.Core.{CondTree, ItemTree, Write, Copy, For, If, Off, BodyTree, Nil, Then}
+use Rattle.gcx_model.specs.Core.{CondTree, ItemTree, Write, Copy, For, If, SignOff, BodyTree, Nil, Then}
 use Rattle.gcx_model.specs.Normal.{join, one, has_loop, half, spread, branch}
 use Rattle.xq_normal.specs.Raw.{flush, spread_on, turn_of, moved, moved_item}
 use Rattle.xq_normal.proofs.Spreading.{spread_is}
@@ -11,18 +11,18 @@ use Rattle.gcx_model.specs.declared.item.Item.{Item}
 use Rattle.gcx_model.specs.ItemView.{item_tree}
 use Rattle.xq_normal.proofs.Behind.{body_in}
 use Rattle.xq_normal.proofs.Moved.{moved_more}
-use Rattle.xq_normal.specs.Shapes.{ShapeTree, Empty, Run, Loops, once, beside, copies, turn_copies, is_looped, item_shape, shape_of, branch_copies, branch_shape}
+use Rattle.xq_normal.specs.Shapes.{ShapeTree, NoItems, OneRun, HasLoops, once, beside, copies, turn_copies, is_looped, item_shape, shape_of, branch_copies, branch_shape}
 use Rattle.xq_normal.specs.Sums.{item_total, total}
 
 -- ---- Shapes
 
-pub beside-empty : (s : ShapeTree) → beside s Empty ≡ s
-beside-empty Empty = refl
-beside-empty Run = refl
-beside-empty (Loops i f b) = refl
+pub beside-empty : (s : ShapeTree) → beside s NoItems ≡ s
+beside-empty NoItems = refl
+beside-empty OneRun = refl
+beside-empty (HasLoops i f b) = refl
 
 abbrev with_count : Bool → Bool → ℕ → ShapeTree
-with_count f b n = Loops n f b
+with_count f b n = HasLoops n f b
 
 no_meeting : (g : Bool) → once (g && not true) ≡ 0
 no_meeting true = refl
@@ -41,35 +41,35 @@ three : (i j k x y : ℕ) → i + (j + x) + (k + y) ≡ i + (j + (k + y) + x)
 three i j k x y = omega arith
 
 pub beside_assoc : (a b c : ShapeTree) → beside (beside a b) c ≡ beside a (beside b c)
-beside_assoc Empty b c = refl
-beside_assoc Run Empty c = refl
-beside_assoc Run Run Empty = refl
-beside_assoc Run Run Run = refl
-beside_assoc Run Run (Loops i f b) = refl
-beside_assoc Run (Loops i f b) Empty = refl
-beside_assoc Run (Loops i f b) Run = refl
-beside_assoc Run (Loops i f b) (Loops j g c) = refl
-beside_assoc (Loops i f b) Empty c = refl
-beside_assoc (Loops i f b) Run Empty = refl
-beside_assoc (Loops i f b) Run Run = ap (with_count f true) (run_twice i (once (not b)))
-beside_assoc (Loops i f b) Run (Loops j g c) = ap (with_count f c) (run_between i j (once (not b)) (once (g && not true)) (no_meeting g))
-beside_assoc (Loops i f b) (Loops j g c) Empty = refl
-beside_assoc (Loops i f b) (Loops j g c) Run = ap (with_count f true) (run_behind i j (once (g && not b)) (once (not c)))
-beside_assoc (Loops i f b) (Loops j g c) (Loops k h d) = ap (with_count f d) (three i j k (once (g && not b)) (once (h && not c)))
+beside_assoc NoItems b c = refl
+beside_assoc OneRun NoItems c = refl
+beside_assoc OneRun OneRun NoItems = refl
+beside_assoc OneRun OneRun OneRun = refl
+beside_assoc OneRun OneRun (HasLoops i f b) = refl
+beside_assoc OneRun (HasLoops i f b) NoItems = refl
+beside_assoc OneRun (HasLoops i f b) OneRun = refl
+beside_assoc OneRun (HasLoops i f b) (HasLoops j g c) = refl
+beside_assoc (HasLoops i f b) NoItems c = refl
+beside_assoc (HasLoops i f b) OneRun NoItems = refl
+beside_assoc (HasLoops i f b) OneRun OneRun = ap (with_count f true) (run_twice i (once (not b)))
+beside_assoc (HasLoops i f b) OneRun (HasLoops j g c) = ap (with_count f c) (run_between i j (once (not b)) (once (g && not true)) (no_meeting g))
+beside_assoc (HasLoops i f b) (HasLoops j g c) NoItems = refl
+beside_assoc (HasLoops i f b) (HasLoops j g c) OneRun = ap (with_count f true) (run_behind i j (once (g && not b)) (once (not c)))
+beside_assoc (HasLoops i f b) (HasLoops j g c) (HasLoops k h d) = ap (with_count f d) (three i j k (once (g && not b)) (once (h && not c)))
 
 pub shape_of-join : (a b : BodyTree) → shape_of (join a b) ≡ beside (shape_of a) (shape_of b)
 shape_of-join Nil b = refl
 shape_of-join (Then i a) b = ap (λ s. beside (item_shape i) s) (shape_of-join a b) ∙ sym (beside_assoc (item_shape i) (shape_of a) (shape_of b))
 
-looped_run : (s : ShapeTree) → is_looped (beside Run s) ≡ is_looped s
-looped_run Empty = refl
-looped_run Run = refl
-looped_run (Loops i f b) = refl
+looped_run : (s : ShapeTree) → is_looped (beside OneRun s) ≡ is_looped s
+looped_run NoItems = refl
+looped_run OneRun = refl
+looped_run (HasLoops i f b) = refl
 
-looped_loop : (n : ℕ) (s : ShapeTree) → is_looped (beside (Loops n false false) s) ≡ true
-looped_loop n Empty = refl
-looped_loop n Run = refl
-looped_loop n (Loops i f b) = refl
+looped_loop : (n : ℕ) (s : ShapeTree) → is_looped (beside (HasLoops n false false) s) ≡ true
+looped_loop n NoItems = refl
+looped_loop n OneRun = refl
+looped_loop n (HasLoops i f b) = refl
 
 pub looped : (d : BodyTree) → has_loop d ≡ is_looped (shape_of d)
 looped Nil = refl
@@ -77,14 +77,14 @@ looped (Then (Write s) d) = looped d ∙ sym (looped_run (shape_of d))
 looped (Then (Copy x) d) = looped d ∙ sym (looped_run (shape_of d))
 looped (Then (For x y s e) d) = sym (looped_loop (turn_copies (shape_of e)) (shape_of d))
 looped (Then (If c a b) d) = looped d ∙ sym (looped_run (shape_of d))
-looped (Then (Off o) d) = looped d ∙ sym (looped_run (shape_of d))
+looped (Then (SignOff o) d) = looped d ∙ sym (looped_run (shape_of d))
 
 -- a run of items that aren't loops
 abbrev run_shape : BodyTree → ShapeTree
-run_shape Nil = Empty
-run_shape (Then i r) = Run
+run_shape Nil = NoItems
+run_shape (Then i r) = OneRun
 
-half_shape : (c : CondTree) (first : Bool) (d : BodyTree) → item_shape (half c first d) ≡ Run
+half_shape : (c : CondTree) (first : Bool) (d : BodyTree) → item_shape (half c first d) ≡ OneRun
 half_shape c true d = refl
 half_shape c false d = refl
 
@@ -93,14 +93,14 @@ flush_shape c first Nil d = refl
 flush_shape c first (Then i r) d = ap (λ s. beside s (shape_of d)) (half_shape c first (Then i r))
 
 -- an item more in the run
-run_more : (run : BodyTree) (i : ItemTree) (s : ShapeTree) → beside (run_shape (join run (one i))) s ≡ beside (run_shape run) (beside Run s)
+run_more : (run : BodyTree) (i : ItemTree) (s : ShapeTree) → beside (run_shape (join run (one i))) s ≡ beside (run_shape run) (beside OneRun s)
 run_more Nil i s = refl
-run_more (Then j r) i s = beside_assoc Run Run s
+run_more (Then j r) i s = beside_assoc OneRun OneRun s
 
 flat_turn : (s : ShapeTree) → is_looped s ≡ false → turn_copies s ≡ 1
-flat_turn Empty h = refl
-flat_turn Run h = refl
-flat_turn (Loops i f b) h = absurd (true_false h)
+flat_turn NoItems h = refl
+flat_turn OneRun h = refl
+flat_turn (HasLoops i f b) h = absurd (true_false h)
   where
     true_false : true ≡ false → ⊥
     true_false e = true≢false e
@@ -108,24 +108,24 @@ flat_turn (Loops i f b) h = absurd (true_false h)
 turn_count : (c : CondTree) (first : Bool) (e : BodyTree) (t : Bool) → has_loop e ≡ t → shape_of (spread_on c first Nil e) ≡ shape_of e
     → turn_copies (shape_of (cond t (spread_on c first Nil e) (one (half c first e)))) ≡ turn_copies (shape_of e)
 turn_count c first e true h s = ap turn_copies s
-turn_count c first e false h s = ap (λ u. turn_copies (beside u Empty)) (half_shape c first e) ∙ sym (flat_turn (shape_of e) (sym (looped e) ∙ h))
+turn_count c first e false h s = ap (λ u. turn_copies (beside u NoItems)) (half_shape c first e) ∙ sym (flat_turn (shape_of e) (sym (looped e) ∙ h))
 
 pub spread_shape : (c : CondTree) (first : Bool) (run d : BodyTree) → shape_of (spread_on c first run d) ≡ beside (run_shape run) (shape_of d)
 spread_shape c first run Nil = flush_shape c first run Nil
 spread_shape c first run (Then (Write s) d) = spread_shape c first (join run (one (Write s))) d ∙ run_more run (Write s) (shape_of d)
 spread_shape c first run (Then (Copy x) d) = spread_shape c first (join run (one (Copy x))) d ∙ run_more run (Copy x) (shape_of d)
 spread_shape c first run (Then (If k a b) d) = spread_shape c first (join run (one (If k a b))) d ∙ run_more run (If k a b) (shape_of d)
-spread_shape c first run (Then (Off o) d) = spread_shape c first (join run (one (Off o))) d ∙ run_more run (Off o) (shape_of d)
+spread_shape c first run (Then (SignOff o) d) = spread_shape c first (join run (one (SignOff o))) d ∙ run_more run (SignOff o) (shape_of d)
 spread_shape c first run (Then (For x y s e) d) =
     flush_shape c first run (Then (For x y s (turn_of c first e)) (spread_on c first Nil d))
     ∙ ap (λ t. beside (run_shape run) t)
-    (ap (λ t. beside (Loops (turn_copies (shape_of (turn_of c first e))) false false) t) (spread_shape c first Nil d)
-    ∙ ap (λ n. beside (Loops n false false) (shape_of d)) (turn_count c first e (has_loop e) refl (spread_shape c first Nil e)))
+    (ap (λ t. beside (HasLoops (turn_copies (shape_of (turn_of c first e))) false false) t) (spread_shape c first Nil d)
+    ∙ ap (λ n. beside (HasLoops n false false) (shape_of d)) (turn_count c first e (has_loop e) refl (spread_shape c first Nil e)))
 
 pub branch_is : (c : CondTree) (a b : BodyTree) → shape_of (branch c a b) ≡ branch_shape (shape_of a) (shape_of b)
-branch_is c a b = go (has_loop a || has_loop b) ∙ ap (λ t. cond t (beside (shape_of a) (shape_of b)) Run) (ap (λ t. t || has_loop b) (looped a) ∙ ap (λ t. is_looped (shape_of a) || t) (looped b))
+branch_is c a b = go (has_loop a || has_loop b) ∙ ap (λ t. cond t (beside (shape_of a) (shape_of b)) OneRun) (ap (λ t. t || has_loop b) (looped a) ∙ ap (λ t. is_looped (shape_of a) || t) (looped b))
   where
-    go : (t : Bool) → shape_of (cond t (join (spread c true a) (spread c false b)) (one (If c a b))) ≡ cond t (beside (shape_of a) (shape_of b)) Run
+    go : (t : Bool) → shape_of (cond t (join (spread c true a) (spread c false b)) (one (If c a b))) ≡ cond t (beside (shape_of a) (shape_of b)) OneRun
     go true = shape_of-join (spread c true a) (spread c false b) ∙ (ap (λ s. beside s (shape_of (spread c false b))) (ap shape_of (sym (spread_is c true a)) ∙ spread_shape c true Nil a) ∙ ap (λ s. beside (shape_of a) s) (ap shape_of (sym (spread_is c false b)) ∙ spread_shape c false Nil b))
     go false = refl
 
@@ -151,24 +151,24 @@ module _ (number : CondTree → ℕ) where
   Moves c first run d = total number (spread_on c first run d) ≡ copies (beside (run_shape run) (shape_of d)) * number c + (total number run + total number d)
 
   item_moves : (c : CondTree) (first : Bool) (run d : BodyTree) (i : ItemTree) (t : ℕ) → t ≡ copies (beside (run_shape (join run (one i))) (shape_of d)) * number c + (total number (join run (one i)) + total number d)
-      → t ≡ copies (beside (run_shape run) (beside Run (shape_of d))) * number c + (total number run + (item_total number i + total number d))
+      → t ≡ copies (beside (run_shape run) (beside OneRun (shape_of d))) * number c + (total number run + (item_total number i + total number d))
   item_moves c first run d i t e =
       let o = one_total run i in
       let m = ap (λ s. copies s * number c) (run_more run i (shape_of d)) in
       omega arith
 
   -- a loop behind a run, and what comes then
-  loop_copies : (run : BodyTree) (n : ℕ) (s : ShapeTree) → copies (beside (run_shape run) (beside (Loops n false false) s)) ≡ copies (run_shape run) + (n + copies s)
-  loop_copies Nil n Empty = omega arith
-  loop_copies Nil n Run = omega arith
-  loop_copies Nil n (Loops i f b) = meet f
+  loop_copies : (run : BodyTree) (n : ℕ) (s : ShapeTree) → copies (beside (run_shape run) (beside (HasLoops n false false) s)) ≡ copies (run_shape run) + (n + copies s)
+  loop_copies Nil n NoItems = omega arith
+  loop_copies Nil n OneRun = omega arith
+  loop_copies Nil n (HasLoops i f b) = meet f
     where
       meet : (f : Bool) → n + (i + once (f && not false)) + once false ≡ 0 + (n + (i + once f))
       meet true = omega arith
       meet false = omega arith
-  loop_copies (Then j r) n Empty = omega arith
-  loop_copies (Then j r) n Run = omega arith
-  loop_copies (Then j r) n (Loops i f b) = meet f
+  loop_copies (Then j r) n NoItems = omega arith
+  loop_copies (Then j r) n OneRun = omega arith
+  loop_copies (Then j r) n (HasLoops i f b) = meet f
     where
       meet : (f : Bool) → n + (i + once (f && not false)) + once true ≡ 1 + (n + (i + once f))
       meet true = omega arith
@@ -181,9 +181,9 @@ module _ (number : CondTree → ℕ) where
       omega arith
     where
       looped_copies : (s : ShapeTree) → is_looped s ≡ true → copies s ≡ turn_copies s
-      looped_copies Empty k = absurd (true≢false (sym k))
-      looped_copies Run k = refl
-      looped_copies (Loops i f b) k = refl
+      looped_copies NoItems k = absurd (true≢false (sym k))
+      looped_copies OneRun k = refl
+      looped_copies (HasLoops i f b) k = refl
   turn_total c first e false h m =
       let s : turn_copies (shape_of e) * number c ≡ 1 * number c = ap (λ n. n * number c) (flat_turn (shape_of e) (sym (looped e) ∙ h)) in
       let k = half_total c first e in
@@ -201,7 +201,7 @@ module _ (number : CondTree → ℕ) where
   spread_total c first run (Then (Write s) d) = item_moves c first run d (Write s) _ (spread_total c first (join run (one (Write s))) d)
   spread_total c first run (Then (Copy x) d) = item_moves c first run d (Copy x) _ (spread_total c first (join run (one (Copy x))) d)
   spread_total c first run (Then (If k a b) d) = item_moves c first run d (If k a b) _ (spread_total c first (join run (one (If k a b))) d)
-  spread_total c first run (Then (Off o) d) = item_moves c first run d (Off o) _ (spread_total c first (join run (one (Off o))) d)
+  spread_total c first run (Then (SignOff o) d) = item_moves c first run d (SignOff o) _ (spread_total c first (join run (one (SignOff o))) d)
   spread_total c first run (Then (For x y s e) d) =
       loop_sum (number c) (copies (run_shape run)) (turn_copies (shape_of e)) (copies (shape_of d)) (total number run) (total number e) (total number d)
       (total number (turn_of c first e)) (total number (spread_on c first Nil d)) (total number (spread_on c first run (Then (For x y s e) d)))

@@ -1,6 +1,6 @@
 -- An If moved into a body item by item, with the run so far, is the body cut in runs and loops.
 use Rattle.std.proofs.Common.{◌≡◌, Bool, true, false, cond, List, [], ◌∷◌, refl, sym, ◌∙◌, ap}
-use Rattle.gcx_model.specs.Core.{CondTree, ItemTree, Write, Copy, For, If, Off, BodyTree, Nil, Then}
+use Rattle.gcx_model.specs.Core.{CondTree, ItemTree, Write, Copy, For, If, SignOff, BodyTree, Nil, Then}
 use Rattle.gcx_model.specs.Normal.{join, one, has_loop, half, BranchPart, Run, Loop, begin, pieces, halved, turned_in, spread}
 use Rattle.xq_normal.specs.Raw.{flush, spread_on}
 
@@ -34,7 +34,7 @@ spread_runs c first run Nil = flush_end c first run
 spread_runs c first run (Then (Write s) d) = spread_runs c first (join run (one (Write s))) d ∙ ap (halved c first) (runs_more run (Write s) (pieces (turned_in c first d)))
 spread_runs c first run (Then (Copy x) d) = spread_runs c first (join run (one (Copy x))) d ∙ ap (halved c first) (runs_more run (Copy x) (pieces (turned_in c first d)))
 spread_runs c first run (Then (If k a b) d) = spread_runs c first (join run (one (If k a b))) d ∙ ap (halved c first) (runs_more run (If k a b) (pieces (turned_in c first d)))
-spread_runs c first run (Then (Off o) d) = spread_runs c first (join run (one (Off o))) d ∙ ap (halved c first) (runs_more run (Off o) (pieces (turned_in c first d)))
+spread_runs c first run (Then (SignOff o) d) = spread_runs c first (join run (one (SignOff o))) d ∙ ap (halved c first) (runs_more run (SignOff o) (pieces (turned_in c first d)))
 spread_runs c first run (Then (For x y s e) d) =
     ap (λ u. flush c first run (Then (For x y s (cond (has_loop e) u (one (half c first e)))) (spread_on c first Nil d))) (spread_runs c first Nil e)
     ∙ (ap (λ u. flush c first run (Then (For x y s (cond (has_loop e) (spread c first e) (one (half c first e)))) u)) (spread_runs c first Nil d)

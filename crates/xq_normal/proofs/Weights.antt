@@ -2,7 +2,7 @@
 use Rattle.std.proofs.Common.{◌≡◌, ℕ, zero, suc, ◌+◌, ◌<◌, ◌≤◌, List, [], ◌∷◌, ◌++◌, length, map, get_or, take, sym, ◌∙◌, ap, arith}
 use Rattle.std.proofs.lemmas.List.{map_more, get_or-map, length-map}
 use Rattle.gcx_model.specs.declared.query.Expr.{Expr}
-use Rattle.gcx_model.specs.Query.{ExprTree, ExprTrees, Empty, Seq, Elem, Path, For, If, no_expr, more_exprs, exprs_of, expr_tree}
+use Rattle.gcx_model.specs.Query.{ExprTree, ExprTrees, Empty, Seq, Elem, QueryPath, QueryFor, QueryIf, no_expr, more_exprs, exprs_of, expr_tree}
 use Rattle.gcx_model.specs.Core.{BodyTree}
 use Rattle.gcx_model.specs.Normal.{Names, join, loops, all_loops}
 use Rattle.xq_normal.specs.Raw.{raw_expr, raw_exprs}
@@ -14,9 +14,9 @@ abbrev mutual
   weight Empty = 0
   weight (Seq es) = suc (weights es)
   weight (Elem name es) = suc (weights es)
-  weight (Path path) = 0
-  weight (For clauses filter body) = suc (suc (suc (length clauses + weight body)))
-  weight (If c this other) = suc (weight this + weight other)
+  weight (QueryPath path) = 0
+  weight (QueryFor clauses filter body) = suc (suc (suc (length clauses + weight body)))
+  weight (QueryIf c this other) = suc (weight this + weight other)
 
   pub weights : ExprTrees → ℕ
   weights no_expr = 0

@@ -4,7 +4,7 @@ use Rattle.std.specs.Fmt.{decimal}
 use Rattle.gcx_base.specs.declared.steps.Axis.{Axis}
 use Rattle.gcx_base.specs.declared.steps.Axis.TheVariants.{Child, Descendant}
 use Rattle.gcx_base.specs.declared.steps.Step.{Step}
-use Rattle.gcx_model.specs.Core.{OperandTree, Path, Str, Num, CondTree, CondTrees, Always, Exists, Compare, Not, All, Any, no_cond, more_conds}
+use Rattle.gcx_model.specs.Core.{OperandTree, Path, Str, Num, CondTree, CondTrees, Always, Exists, Compare, Not, AllOf, AnyOf, no_cond, more_conds}
 use Rattle.xq_print.specs.Literals.{number_text, string_text}
 use Rattle.xq_print.specs.Printed.{joined, rel_text, test_text}
 
@@ -36,8 +36,8 @@ abbrev mutual
   cond_text (Exists x steps) = codes "exists(" ++ (path_text x steps ++ codes ")")
   cond_text (Compare left rel right) = codes "(" ++ (operand_text left ++ (rel_text rel ++ (operand_text right ++ codes ")")))
   cond_text (Not inner) = codes "not(" ++ (cond_text inner ++ codes ")")
-  cond_text (All members) = codes "all(" ++ (joined (codes ", ") (cond_texts members) ++ codes ")")
-  cond_text (Any members) = codes "any(" ++ (joined (codes ", ") (cond_texts members) ++ codes ")")
+  cond_text (AllOf members) = codes "all(" ++ (joined (codes ", ") (cond_texts members) ++ codes ")")
+  cond_text (AnyOf members) = codes "any(" ++ (joined (codes ", ") (cond_texts members) ++ codes ")")
 
   pub cond_texts : CondTrees → List (List ℕ)
   cond_texts no_cond = []

@@ -5,7 +5,7 @@ use Rattle.gcx_model.specs.declared.query.Clause.{Clause}
 use Rattle.gcx_model.specs.Written.{start_tag, end_tag}
 use Rattle.gcx_model.specs.Query as query
 use Rattle.gcx_model.specs.Query.{ExprTree, ExprTrees}
-use Rattle.gcx_model.specs.Core.{CondTree, ItemTree, Write, Copy, For, If, Off, BodyTree, Nil, Then}
+use Rattle.gcx_model.specs.Core.{CondTree, ItemTree, Write, Copy, For, If, SignOff, BodyTree, Nil, Then}
 use Rattle.gcx_model.specs.Normal.{join, one, Names, start_var, normal_cond, has_loop, half, branch, nest, normal_clauses, loops}
 
 abbrev pub raw_filtered : Option query.QueryCondTree → Names → BodyTree → BodyTree
@@ -18,9 +18,9 @@ abbrev mutual
   raw_expr query.Empty names k = Nil
   raw_expr (query.Seq es) names k = raw_exprs es names k
   raw_expr (query.Elem name es) names k = Then (Write (start_tag name)) (join (raw_exprs es names k) (one (Write (end_tag name))))
-  raw_expr (query.Path path) names k = nest (start_var names path.start) path.steps k (λ y. one (Copy y))
-  raw_expr (query.For cs filter e) names k = normal_clauses cs names k (λ inner j. raw_filtered filter inner (raw_expr e inner j))
-  raw_expr (query.If c a b) names k = one (If (normal_cond c names) (raw_expr a names k) (raw_expr b names (k + loops a)))
+  raw_expr (query.QueryPath path) names k = nest (start_var names path.start) path.steps k (λ y. one (Copy y))
+  raw_expr (query.QueryFor cs filter e) names k = normal_clauses cs names k (λ inner j. raw_filtered filter inner (raw_expr e inner j))
+  raw_expr (query.QueryIf c a b) names k = one (If (normal_cond c names) (raw_expr a names k) (raw_expr b names (k + loops a)))
 
   pub raw_exprs : ExprTrees → Names → (k : ℕ) → BodyTree
   raw_exprs query.no_expr names k = Nil
@@ -33,7 +33,7 @@ abbrev mutual
   moved_item (Copy x) = one (Copy x)
   moved_item (For x y s d) = one (For x y s (moved d))
   moved_item (If c a b) = branch c (moved a) (moved b)
-  moved_item (Off o) = one (Off o)
+  moved_item (SignOff o) = one (SignOff o)
 
   pub moved : BodyTree → BodyTree
   moved Nil = Nil
@@ -60,7 +60,7 @@ spread_on c first run (Then (Write s) d) = spread_on c first (join run (one (Wri
 spread_on c first run (Then (Copy x) d) = spread_on c first (join run (one (Copy x))) d
 spread_on c first run (Then (For x y s e) d) = flush c first run (Then (For x y s (cond (has_loop e) (spread_on c first Nil e) (one (half c first e)))) (spread_on c first Nil d))
 spread_on c first run (Then (If k a b) d) = spread_on c first (join run (one (If k a b))) d
-spread_on c first run (Then (Off o) d) = spread_on c first (join run (one (Off o))) d
+spread_on c first run (Then (SignOff o) d) = spread_on c first (join run (one (SignOff o))) d
 
 -- the body of a loop with an If moved into it
 abbrev pub turn_of : CondTree → (first : Bool) → BodyTree → BodyTree

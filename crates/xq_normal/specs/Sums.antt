@@ -3,7 +3,7 @@ use Rattle.std.specs.Prelude.{ℕ, ◌+◌, nat_lt, List, length, Option, Some, 
 use Rattle.gcx_model.specs.declared.fault.QueryFault.{QueryFault}
 use Rattle.gcx_model.specs.declared.fault.QueryFault.TheVariants.{TooLarge}
 use Rattle.gcx_model.specs.declared.fault.What.TheVariants.{Loops, Steps, Conditions}
-use Rattle.gcx_model.specs.Core.{OperandTree, Path, Str, Num, CondTree, CondTrees, Always, Exists, Compare, Not, All, Any, no_cond, more_conds, ItemTree, Write, Copy, For, If, Off, BodyTree, Nil, Then}
+use Rattle.gcx_model.specs.Core.{OperandTree, Path, Str, Num, CondTree, CondTrees, Always, Exists, Compare, Not, AllOf, AnyOf, no_cond, more_conds, ItemTree, Write, Copy, For, If, SignOff, BodyTree, Nil, Then}
 use Rattle.gcx_model.specs.PlanView.{CoreTree}
 use Rattle.gcx_model.specs.Query.{ExprTree}
 use Rattle.gcx_model.specs.Normal.{normal}
@@ -34,8 +34,8 @@ abbrev mutual
   cond_steps (Exists x steps) = length steps
   cond_steps (Compare left rel right) = operand_steps left + operand_steps right
   cond_steps (Not c) = cond_steps c
-  cond_steps (All cs) = conds_steps cs
-  cond_steps (Any cs) = conds_steps cs
+  cond_steps (AllOf cs) = conds_steps cs
+  cond_steps (AnyOf cs) = conds_steps cs
 
   pub conds_steps : CondTrees → ℕ
   conds_steps no_cond = 0
@@ -52,7 +52,7 @@ abbrev mutual
   item_total number (Copy x) = 0
   item_total number (For x y s d) = total number d
   item_total number (If c a b) = number c + (total number a + total number b)
-  item_total number (Off o) = 0
+  item_total number (SignOff o) = 0
 
   pub total : (CondTree → ℕ) → BodyTree → ℕ
   total number Nil = 0

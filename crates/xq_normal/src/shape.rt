@@ -1,7 +1,7 @@
 //! How often a condition is copied when its `If` is moved inside loops. Counts stand still at their
 //! type's end.
 ghost use Rattle.std.specs.Prelude.{◌≡◌, false};
-ghost use Rattle.xq_normal.specs.Shapes.{ShapeTree, beside, branch_copies, branch_shape, capped, code_shape, copies, is_looped, turn_copies, Loops};
+ghost use Rattle.xq_normal.specs.Shapes.{ShapeTree, beside, branch_copies, branch_shape, capped, code_shape, copies, is_looped, turn_copies, HasLoops};
 
 /// What of a body tells how often a condition that is moved into it is copied.
 #[derive(Clone, Copy, Debug)]
@@ -82,7 +82,7 @@ impl Shape {
     /// The shape of a loop over the body. An `If` goes into an empty body too.
     pub(crate) fn inside_loop(self) -> Shape
         ensures { (a : ShapeTree) → self ≡ code_shape a
-            → result ≡ code_shape (Loops (turn_copies a) false false) }
+            → result ≡ code_shape (HasLoops (turn_copies a) false false) }
     {
         let inner = match self {
             Shape::Empty => 1,

@@ -2,7 +2,7 @@
 use Rattle.std.proofs.Common.{ℕ, ◌≡◌, true, List, length, Result, Ok, Err, sym, ◌∙◌, subst, inl, inr}
 use Rattle.std.specs.Prelude.{IfOk, IfErr}
 use Rattle.gcx_model.specs.declared.fault.QueryFault.{QueryFault}
-use Rattle.gcx_model.specs.declared.fault.QueryFault.TheVariants.{Utf8, Lex, Syntax, UnknownVar, TagMismatch, DescendantNotLast, IntegerWide, TooLarge, Memory}
+use Rattle.gcx_model.specs.declared.fault.QueryFault.TheVariants as query_faults
 use Rattle.gcx_model.specs.declared.query.Query.{Query}
 use Rattle.gcx_model.specs.Query.{ExprTree, query_trees}
 use Rattle.gcx_model.specs.Sound.{is_sound}
@@ -16,15 +16,15 @@ use Rattle.xq_parse.proofs.Verdict as laws
 
 -- want of memory aside
 pub mapped : (P Q : QueryFault → Type 0) → ((f : QueryFault) → P f → Q f) → (f : QueryFault) → UnlessMemory P f → UnlessMemory Q f
-mapped P Q h Memory p = tt
-mapped P Q h (Utf8 at) p = h _ p
-mapped P Q h (Lex at) p = h _ p
-mapped P Q h (Syntax at) p = h _ p
-mapped P Q h (UnknownVar at) p = h _ p
-mapped P Q h (TagMismatch at) p = h _ p
-mapped P Q h (DescendantNotLast at) p = h _ p
-mapped P Q h (IntegerWide at) p = h _ p
-mapped P Q h (TooLarge what limit) p = h _ p
+mapped P Q h query_faults.Memory p = tt
+mapped P Q h (query_faults.Utf8 at) p = h _ p
+mapped P Q h (query_faults.Lex at) p = h _ p
+mapped P Q h (query_faults.Syntax at) p = h _ p
+mapped P Q h (query_faults.UnknownVar at) p = h _ p
+mapped P Q h (query_faults.TagMismatch at) p = h _ p
+mapped P Q h (query_faults.DescendantNotLast at) p = h _ p
+mapped P Q h (query_faults.IntegerWide at) p = h _ p
+mapped P Q h (query_faults.TooLarge what limit) p = h _ p
 
 -- ---- the text has tokens
 
@@ -85,15 +85,15 @@ lex_refused bytes f l only = record {
     once g (inr h) = absurd (only.no_tokens h.tokens h.lexed)
 
 pub of_lex_fault : (bytes : List ℕ) (f : QueryFault) → UnlessMemory (LexFault bytes) f → UnlessMemory (HasOnlyFault bytes) f → UnlessMemory (Refuses bytes) f
-of_lex_fault bytes Memory l o = tt
-of_lex_fault bytes (Utf8 at) l o = lex_refused bytes (Utf8 at) l o
-of_lex_fault bytes (Lex at) l o = lex_refused bytes (Lex at) l o
-of_lex_fault bytes (Syntax at) l o = absurd l
-of_lex_fault bytes (UnknownVar at) l o = absurd l
-of_lex_fault bytes (TagMismatch at) l o = absurd l
-of_lex_fault bytes (DescendantNotLast at) l o = absurd l
-of_lex_fault bytes (IntegerWide at) l o = lex_refused bytes (IntegerWide at) l o
-of_lex_fault bytes (TooLarge what limit) l o = lex_refused bytes (TooLarge what limit) l o
+of_lex_fault bytes query_faults.Memory l o = tt
+of_lex_fault bytes (query_faults.Utf8 at) l o = lex_refused bytes (query_faults.Utf8 at) l o
+of_lex_fault bytes (query_faults.Lex at) l o = lex_refused bytes (query_faults.Lex at) l o
+of_lex_fault bytes (query_faults.Syntax at) l o = absurd l
+of_lex_fault bytes (query_faults.UnknownVar at) l o = absurd l
+of_lex_fault bytes (query_faults.TagMismatch at) l o = absurd l
+of_lex_fault bytes (query_faults.DescendantNotLast at) l o = absurd l
+of_lex_fault bytes (query_faults.IntegerWide at) l o = lex_refused bytes (query_faults.IntegerWide at) l o
+of_lex_fault bytes (query_faults.TooLarge what limit) l o = lex_refused bytes (query_faults.TooLarge what limit) l o
 
 pub spells : (bytes : List ℕ) (r : Result Query QueryFault) → IfOk r (λ q. Accepts bytes (query_trees q)) → IfOk r (λ q. QuerySpells bytes (query_trees q))
 spells bytes (Ok q) a = a.spells

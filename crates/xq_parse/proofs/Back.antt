@@ -67,7 +67,7 @@ group_then limit n sc m k ts p h =
 not_back : (limit n : ℕ) (sc : Scope) (m : Marks) (k : Marks → QueryCondTree → State) (w : List Token) (p : Found) → nat_lt n limit ≡ true → Lang limit (not_state (n + 1) sc m k) w p → Lang limit (atom n sc m k) (TName not_ ∷ w) p
 unfolding not_state
 not_back limit n sc m k w p f l =
-    let r = group_then limit (n + 1) sc m (λ m c. k m (q.Not c)) l.behind p l.goes_on in
+    let r = group_then limit (n + 1) sc m (λ m c. k m (q.QueryNot c)) l.behind p l.goes_on in
     (g.negated r.0, (f, r.1), record { behind = r.2.behind; parts = ap (λ (l : List Token). TName not_ ∷ l) (l.parts ∙ ap (λ (l : List Token). TSign signs.ParenOpen ∷ l) r.2.parts); goes_on = r.2.goes_on })
 
 true_back : (limit n : ℕ) (sc : Scope) (m : Marks) (k : Marks → QueryCondTree → State) (w : List Token) (p : Found) → Lang limit (true_state m k) w p → Lang limit (atom n sc m k) (TName true_ ∷ w) p
@@ -186,7 +186,7 @@ clauses_back : (limit : ℕ) (sc : Scope) (m : Marks) (cs : List Clause) (k : Sc
 clauses_back limit sc m cs k w p h =
     let l = clause_then limit sc m (more_clauses sc cs k) w p h in
     let r = l.3.goes_on in
-    let c : g.Clause = g.clause l.0 l.1 l.2 in (
+    let c : g.ClauseSyntax = g.clause l.0 l.1 l.2 in (
       g.clause_more c r.0,
       record {
         behind = r.1.behind;
@@ -221,13 +221,13 @@ rest_back limit n sc m es k w p l =
 for_back : (limit n : ℕ) (sc : Scope) (m : Marks) (k : Marks → ExprTree → State) (w : List Token) (p : Found) → nat_lt n limit ≡ true → Lang limit (for_state (n + 1) sc m k) w p → Lang limit (expr n sc m k) (TName for_ ∷ w) p
 unfolding for_state
 for_back limit n sc m k w p f h =
-    let next : Scope → Marks → List Clause → State = λ sc m cs. condition (n + 1) sc m (λ m w. word return_ (expr (n + 1) sc m (λ m e. k m (q.For cs w e)))) in
+    let next : Scope → Marks → List Clause → State = λ sc m cs. condition (n + 1) sc m (λ m w. word return_ (expr (n + 1) sc m (λ m e. k m (q.QueryFor cs w e)))) in
     let c = clause_then limit sc m (more_clauses sc [] next) w p h in
     let cs = c.3.goes_on in
     let v = cs.1.goes_on in
     let r = v.2.goes_on in
     let e = r.goes_on in
-    let d : g.Clause = g.clause c.0 c.1 c.2 in (
+    let d : g.ClauseSyntax = g.clause c.0 c.1 c.2 in (
       g.for_expr d cs.0 v.0 e.0,
       (f, v.1, e.1),
       record {
@@ -243,7 +243,7 @@ if_back : (limit n : ℕ) (sc : Scope) (m : Marks) (k : Marks → ExprTree → S
 unfolding if_state head_state
 if_back limit n sc m k w p f h =
     let d = n + 1 in
-    let next : Marks → QueryCondTree → State = λ m c. sign signs.ParenClose (word then_ (expr d sc m (λ m a. word else_ (expr d sc m (λ m b. k m (q.If c a b)))))) in
+    let next : Marks → QueryCondTree → State = λ m c. sign signs.ParenClose (word then_ (expr d sc m (λ m a. word else_ (expr d sc m (λ m b. k m (q.QueryIf c a b)))))) in
     let c = cond_then limit d sc m next h.behind p h.goes_on in
     let pc = c.2.goes_on in
     let th = pc.goes_on in

@@ -84,13 +84,13 @@ name_reads limit d k x ts h =
     elim (bytes_eq x text_ || bytes_eq x node_) as (λ (b : Bool). reads limit (cond b (call_or_name d x k) (k (a_step d (tests.Named x)))) ts ≡ reads limit (k (a_step d (tests.Named x))) ts)
     [ true ↦ call_over limit d x k ts h | false ↦ refl ]
 
-pub test_reads : (limit : ℕ) (d : Axis) (k : Step → State) (t : g.Test) (ts : List Token) → no_call ts ≡ true → reads limit (test d k) (test_tokens t ++ ts) ≡ reads limit (k (a_step d (test_tree t))) ts
+pub test_reads : (limit : ℕ) (d : Axis) (k : Step → State) (t : g.TestSyntax) (ts : List Token) → no_call ts ≡ true → reads limit (test d k) (test_tokens t ++ ts) ≡ reads limit (k (a_step d (test_tree t))) ts
 test_reads limit d k (g.name_test x) ts h = name_reads limit d k x ts h
 test_reads limit d k g.star_test ts h = refl
 test_reads limit d k g.text_test ts h = refl
 test_reads limit d k g.node_test ts h = refl
 
-axis_reads : (limit : ℕ) (k : Step → State) (t : g.Test) (ts : List Token) → no_call ts ≡ true → reads limit (axis k) (test_tokens t ++ ts) ≡ reads limit (k (a_step axes.Child (test_tree t))) ts
+axis_reads : (limit : ℕ) (k : Step → State) (t : g.TestSyntax) (ts : List Token) → no_call ts ≡ true → reads limit (axis k) (test_tokens t ++ ts) ≡ reads limit (k (a_step axes.Child (test_tree t))) ts
 axis_reads limit k (g.name_test x) ts h =
     elim (bytes_eq x child_ || bytes_eq x descendant_) as (λ (b : Bool). onto (cond b (Ok (axis_or_name x k)) (step limit (test axes.Child k) (TName x))) (λ u. reads limit u ts) ≡ reads limit (k (a_step axes.Child (tests.Named x))) ts)
     [ true ↦ colons_over limit x k ts h | false ↦ name_reads limit axes.Child k x ts h ]
@@ -98,7 +98,7 @@ axis_reads limit k g.star_test ts h = refl
 axis_reads limit k g.text_test ts h = refl
 axis_reads limit k g.node_test ts h = refl
 
-pub step_reads : (limit : ℕ) (k : ℕ → Step → State) (s : g.Step) (ts : List Token) → no_call ts ≡ true → reads limit (first_step k) (step_tokens s ++ ts) ≡ reads limit (k (step_place s) (step_tree s)) ts
+pub step_reads : (limit : ℕ) (k : ℕ → Step → State) (s : g.StepSyntax) (ts : List Token) → no_call ts ≡ true → reads limit (first_step k) (step_tokens s ++ ts) ≡ reads limit (k (step_place s) (step_tree s)) ts
 step_reads limit k (g.plain at t) ts h = axis_reads limit (k at) t ts h
 step_reads limit k (g.child at t) ts h = test_reads limit axes.Child (k at) t ts h
 step_reads limit k (g.descendant at t) ts h = test_reads limit axes.Descendant (k at) t ts h
@@ -115,20 +115,20 @@ steps_over limit t k (TStr y ∷ ts) h = refl
 steps_over limit t k (TSign s ∷ ts) h = refl
 
 -- what begins with a step
-steps_first : (limit : ℕ) (t : Trail) (k : Trail → State) (s : g.Step) (ts : List Token) → reads limit (steps t k) (step_tokens s ++ ts) ≡ reads limit (first_step (steps_behind t k)) (step_tokens s ++ ts)
+steps_first : (limit : ℕ) (t : Trail) (k : Trail → State) (s : g.StepSyntax) (ts : List Token) → reads limit (steps t k) (step_tokens s ++ ts) ≡ reads limit (first_step (steps_behind t k)) (step_tokens s ++ ts)
 steps_first limit t k (g.plain at u) ts = refl
 steps_first limit t k (g.child at u) ts = refl
 steps_first limit t k (g.descendant at u) ts = refl
 steps_first limit t k (g.double at u) ts = refl
 
-steps_no_call : (ss : g.Steps) (ts : List Token) → no_step ts ≡ true → no_call (steps_tokens ss ++ ts) ≡ true
+steps_no_call : (ss : g.StepsSyntax) (ts : List Token) → no_step ts ≡ true → no_call (steps_tokens ss ++ ts) ≡ true
 steps_no_call g.no_step ts h = step_call ts h
 steps_no_call (g.more_steps (g.plain at t) ss) ts h = refl
 steps_no_call (g.more_steps (g.child at t) ss) ts h = refl
 steps_no_call (g.more_steps (g.descendant at t) ss) ts h = refl
 steps_no_call (g.more_steps (g.double at t) ss) ts h = refl
 
-pub steps_reads : (limit : ℕ) (t : Trail) (k : Trail → State) (ss : g.Steps) (ts : List Token) → no_step ts ≡ true → reads limit (steps t k) (steps_tokens ss ++ ts) ≡ reads limit (k (trail_behind t ss)) ts
+pub steps_reads : (limit : ℕ) (t : Trail) (k : Trail → State) (ss : g.StepsSyntax) (ts : List Token) → no_step ts ≡ true → reads limit (steps t k) (steps_tokens ss ++ ts) ≡ reads limit (k (trail_behind t ss)) ts
 steps_reads limit t k g.no_step ts h = steps_over limit t k ts h
 steps_reads limit t k (g.more_steps s ss) ts h =
     ap (reads limit (steps t k)) (append_assoc (step_tokens s) (steps_tokens ss) ts)
@@ -137,20 +137,20 @@ steps_reads limit t k (g.more_steps s ss) ts h =
     ∙ steps_reads limit (trail_behind t (g.more_steps s g.no_step)) k ss ts h
 
 -- Step {Step}
-pub some_reads : (limit : ℕ) (k : Trail → State) (s : g.Step) (ss : g.Steps) (ts : List Token) → no_step ts ≡ true → reads limit (steps_state k) ((step_tokens s ++ steps_tokens ss) ++ ts) ≡ reads limit (k (trail_behind no_trail (g.more_steps s ss))) ts
+pub some_reads : (limit : ℕ) (k : Trail → State) (s : g.StepSyntax) (ss : g.StepsSyntax) (ts : List Token) → no_step ts ≡ true → reads limit (steps_state k) ((step_tokens s ++ steps_tokens ss) ++ ts) ≡ reads limit (k (trail_behind no_trail (g.more_steps s ss))) ts
 some_reads limit k s ss ts h =
     ap (reads limit (steps_state k)) (append_assoc (step_tokens s) (steps_tokens ss) ts)
     ∙ step_reads limit (steps_behind no_trail k) s (steps_tokens ss ++ ts) (steps_no_call ss ts h)
     ∙ steps_reads limit (trail_behind no_trail (g.more_steps s g.no_step)) k ss ts h
 
-path_first : (limit : ℕ) (k : Route → State) (s : g.Step) (ts : List Token) → reads limit (path k) (step_tokens s ++ ts) ≡ reads limit (steps_state (with_start None k)) (step_tokens s ++ ts)
+path_first : (limit : ℕ) (k : Route → State) (s : g.StepSyntax) (ts : List Token) → reads limit (path k) (step_tokens s ++ ts) ≡ reads limit (steps_state (with_start None k)) (step_tokens s ++ ts)
 path_first limit k (g.plain at t) ts = refl
 path_first limit k (g.child at t) ts = refl
 path_first limit k (g.descendant at t) ts = refl
 path_first limit k (g.double at t) ts = refl
 
 -- a path, once it is known to begin with a step
-root_reads : (limit : ℕ) (s : State) (k : Route → State) (r : Route) (t : g.Step) (ss : g.Steps) (ts : List Token) → no_step ts ≡ true →
+root_reads : (limit : ℕ) (s : State) (k : Route → State) (r : Route) (t : g.StepSyntax) (ss : g.StepsSyntax) (ts : List Token) → no_step ts ≡ true →
     (reads limit s (step_tokens t ++ (steps_tokens ss ++ ts)) ≡ reads limit (steps_state (with_start None k)) (step_tokens t ++ (steps_tokens ss ++ ts))) →
     a_route None (trail_behind no_trail (g.more_steps t ss)) ≡ r → reads limit s ((step_tokens t ++ steps_tokens ss) ++ ts) ≡ reads limit (k r) ts
 root_reads limit s k r t ss ts h first e =
@@ -164,7 +164,7 @@ pub path_reads : (limit : ℕ) (k : Route → State) (p : g.Path) (ts : List Tok
 path_reads limit k (g.from_var at x ss) ts h = steps_reads limit no_trail (with_start (Some (a_var at x)) k) ss ts h ∙ ap (λ (r : Route). reads limit (k r) ts) (from_var_is at x ss)
 path_reads limit k (g.from_root s ss) ts h = root_reads limit (path k) k (path_route (g.from_root s ss)) s ss ts h (path_first limit k s (steps_tokens ss ++ ts)) (from_root_is s ss)
 
-source_first : (limit : ℕ) (k : Route → State) (s : g.Step) (ts : List Token) → reads limit (source k) (step_tokens s ++ ts) ≡ reads limit (steps_state (with_start None k)) (step_tokens s ++ ts)
+source_first : (limit : ℕ) (k : Route → State) (s : g.StepSyntax) (ts : List Token) → reads limit (source k) (step_tokens s ++ ts) ≡ reads limit (steps_state (with_start None k)) (step_tokens s ++ ts)
 source_first limit k (g.plain at t) ts = refl
 source_first limit k (g.child at t) ts = refl
 source_first limit k (g.descendant at t) ts = refl
@@ -261,13 +261,13 @@ atom_first limit n sc m k (g.from_root (g.child at t) ss) ts = refl
 atom_first limit n sc m k (g.from_root (g.descendant at t) ss) ts = refl
 atom_first limit n sc m k (g.from_root (g.double at t) ss) ts = refl
 
-exists_reads : (limit : ℕ) (sc : Scope) (m : Marks) (k : Marks → QueryCondTree → State) (p : g.Path) (ts : List Token) → reads limit (exists_state sc m k) (TSign signs.ParenOpen ∷ (path_tokens p ++ (TSign signs.ParenClose ∷ ts))) ≡ reads limit (k (path_marks sc m p) (q.Exists (path_tree p))) ts
+exists_reads : (limit : ℕ) (sc : Scope) (m : Marks) (k : Marks → QueryCondTree → State) (p : g.Path) (ts : List Token) → reads limit (exists_state sc m k) (TSign signs.ParenOpen ∷ (path_tokens p ++ (TSign signs.ParenClose ∷ ts))) ≡ reads limit (k (path_marks sc m p) (q.QueryExists (path_tree p))) ts
 unfolding exists_state
-exists_reads limit sc m k p ts = path_reads limit (λ r. sign signs.ParenClose (k (seen sc m r) (q.Exists r.path))) p (TSign signs.ParenClose ∷ ts) refl
+exists_reads limit sc m k p ts = path_reads limit (λ r. sign signs.ParenClose (k (seen sc m r) (q.QueryExists r.path))) p (TSign signs.ParenClose ∷ ts) refl
 
-literal_reads : (limit : ℕ) (sc : Scope) (m : Marks) (k : Marks → QueryCondTree → State) (l : QOperand) (r : Rel) (p : g.Path) (ts : List Token) → no_step ts ≡ true → reads limit (literal_state l sc m k) (TSign (rel_sign r) ∷ (path_tokens p ++ ts)) ≡ reads limit (k (path_marks sc m p) (q.Compare l r (sides.Path (path_tree p)))) ts
+literal_reads : (limit : ℕ) (sc : Scope) (m : Marks) (k : Marks → QueryCondTree → State) (l : QOperand) (r : Rel) (p : g.Path) (ts : List Token) → no_step ts ≡ true → reads limit (literal_state l sc m k) (TSign (rel_sign r) ∷ (path_tokens p ++ ts)) ≡ reads limit (k (path_marks sc m p) (q.QueryCompare l r (sides.Path (path_tree p)))) ts
 unfolding literal_state
-literal_reads limit sc m k l r p ts h = rel_reads limit (λ c. path (λ r. k (seen sc m r) (q.Compare l c (sides.Path r.path)))) r (path_tokens p ++ ts) ∙ path_reads limit (λ s. k (seen sc m s) (q.Compare l r (sides.Path s.path))) p ts h
+literal_reads limit sc m k l r p ts h = rel_reads limit (λ c. path (λ r. k (seen sc m r) (q.QueryCompare l c (sides.Path r.path)))) r (path_tokens p ++ ts) ∙ path_reads limit (λ s. k (seen sc m s) (q.QueryCompare l r (sides.Path s.path))) p ts h
 
 ends_paren : (ts : List Token) → EndsCond (TSign signs.ParenClose ∷ ts)
 ends_paren ts = record { all = record { path = refl; ands = refl }; ors = refl }
@@ -319,24 +319,24 @@ mutual
       ∙ ap (λ (l : List QueryCondTree). reads limit (k (ands_marks sc (atom_marks sc m a) os) l) ts) (append_assoc bs (atom_tree a ∷ []) (ands_tree os))
 
   pub atom_reads : (limit n : ℕ) (sc : Scope) (m : Marks) (k : Marks → QueryCondTree → State) (a : g.Atom) (ts : List Token) → AtomFits limit n a → no_step ts ≡ true → reads limit (atom n sc m k) (atom_tokens a ++ ts) ≡ reads limit (k (atom_marks sc m a) (atom_tree a)) ts
-  atom_reads limit n sc m k (g.negated c) ts f h = rw (f.0) (group_reads limit (n + 1) sc m (λ m c. k m (q.Not c)) c ts (cond_reads limit (n + 1) sc m (close_cond (λ m c. k m (q.Not c))) c (TSign signs.ParenClose ∷ ts) f.1 (ends_paren ts)))
+  atom_reads limit n sc m k (g.negated c) ts f h = rw (f.0) (group_reads limit (n + 1) sc m (λ m c. k m (q.QueryNot c)) c ts (cond_reads limit (n + 1) sc m (close_cond (λ m c. k m (q.QueryNot c))) c (TSign signs.ParenClose ∷ ts) f.1 (ends_paren ts)))
   atom_reads limit n sc m k g.always ts f h = refl
   atom_reads limit n sc m k (g.existing p) ts f h =
       ap (λ (l : List Token). reads limit (exists_state sc m k) (TSign signs.ParenOpen ∷ l)) (append_assoc (path_tokens p) (TSign signs.ParenClose ∷ []) ts) ∙ exists_reads limit sc m k p ts
   atom_reads limit n sc m k (g.grouped c) ts f h = rw (f.0) (group_reads limit (n + 1) sc m k c ts (cond_reads limit (n + 1) sc m (close_cond k) c (TSign signs.ParenClose ∷ ts) f.1 (ends_paren ts)))
   atom_reads limit n sc m k (g.compared p r o) ts f h =
-      let next : Rel → State = λ c. operand sc (path_marks sc m p) (λ m o. k m (q.Compare (sides.Path (path_tree p)) c o)) in
+      let next : Rel → State = λ c. operand sc (path_marks sc m p) (λ m o. k m (q.QueryCompare (sides.Path (path_tree p)) c o)) in
       ap (reads limit (atom n sc m k)) (append_assoc (path_tokens p) (TSign (rel_sign r) ∷ operand_tokens o) ts)
       ∙ atom_first limit n sc m k p (TSign (rel_sign r) ∷ (operand_tokens o ++ ts))
       ∙ path_reads limit (compare_state sc m k) p (TSign (rel_sign r) ∷ (operand_tokens o ++ ts)) (rel_no_step r (operand_tokens o ++ ts))
       ∙ rel_reads limit next r (operand_tokens o ++ ts)
-      ∙ operand_reads limit sc (path_marks sc m p) (λ m o. k m (q.Compare (sides.Path (path_tree p)) r o)) o ts h
+      ∙ operand_reads limit sc (path_marks sc m p) (λ m o. k m (q.QueryCompare (sides.Path (path_tree p)) r o)) o ts h
   atom_reads limit n sc m k (g.literal_first (g.text x) r p) ts f h = literal_reads limit sc m k (sides.Str x) r p ts h
   atom_reads limit n sc m k (g.literal_first (g.number u) r p) ts f h = literal_reads limit sc m k (sides.Num u) r p ts h
 
 -- ---- expressions
 
-clause_reads : (limit : ℕ) (sc : Scope) (m : Marks) (k : Marks → Clause → State) (c : g.Clause) (ts : List Token) → no_step ts ≡ true → reads limit (clause_state sc m k) (clause_tokens c ++ ts) ≡ reads limit (k (clause_marks sc m c) (clause_tree c)) ts
+clause_reads : (limit : ℕ) (sc : Scope) (m : Marks) (k : Marks → Clause → State) (c : g.ClauseSyntax) (ts : List Token) → no_step ts ≡ true → reads limit (clause_state sc m k) (clause_tokens c ++ ts) ≡ reads limit (k (clause_marks sc m c) (clause_tree c)) ts
 unfolding clause_state
 clause_reads limit sc m k (g.clause at x s) ts h = source_reads limit (λ r. k (seen_in_order sc m r) (a_clause x r.path)) s ts h
 
@@ -345,7 +345,7 @@ clauses_ends g.no_clause ts h = h
 clauses_ends (g.clause_more c cs) ts h = refl
 
 -- a clause's variable stands in scope behind it
-scope_is : (sc : Scope) (c : g.Clause) → (clause_tree c).var ∷ sc ≡ clause_scope sc c
+scope_is : (sc : Scope) (c : g.ClauseSyntax) → (clause_tree c).var ∷ sc ≡ clause_scope sc c
 scope_is sc (g.clause at x s) = refl
 
 later_clauses : (limit : ℕ) (sc : Scope) (m : Marks) (before : List Clause) (k : Scope → Marks → List Clause → State) (cs : g.Clauses) (ts : List Token) → no_step ts ≡ true → reads limit (clauses sc m before k) (clauses_tokens cs ++ ts) ≡ reads limit (clauses (clauses_scope sc cs) (clauses_marks sc m cs) (before ++ clauses_tree cs) k) ts
@@ -410,7 +410,7 @@ mutual
   pub expr_reads : (limit n : ℕ) (sc : Scope) (m : Marks) (k : Marks → ExprTree → State) (e : g.Expr) (ts : List Token) → ExprFits limit n e → no_step ts ≡ true → reads limit (expr n sc m k) (expr_tokens e ++ ts) ≡ reads limit (k (expr_marks sc m e) (derived_expr e)) ts
   expr_reads limit n sc m k (g.for_expr c cs w e) ts f h =
       let d = n + 1 in
-      let body : Scope → Marks → List Clause → Option QueryCondTree → State = λ sc m cs w. expr d sc m (λ m e. k m (q.For cs w e)) in
+      let body : Scope → Marks → List Clause → Option QueryCondTree → State = λ sc m cs w. expr d sc m (λ m e. k m (q.QueryFor cs w e)) in
       let behind : List Token = where_tokens w ++ (TName return_ ∷ (expr_tokens e ++ ts)) in
       let inside : Scope = clauses_scope (clause_scope sc c) cs in
       let marked : Marks = clauses_marks (clause_scope sc c) (clause_marks sc m c) cs in
@@ -420,10 +420,10 @@ mutual
       ∙ ap (λ (s : Scope). reads limit (clauses s (clause_marks sc m c) (clause_tree c ∷ []) (filter_then d body)) (clauses_tokens cs ++ behind)) (scope_is sc c)
       ∙ later_clauses limit (clause_scope sc c) (clause_marks sc m c) (clause_tree c ∷ []) (filter_then d body) cs behind (where_ends w (expr_tokens e ++ ts))
       ∙ where_reads limit d inside marked (clause_tree c ∷ clauses_tree cs) body w (expr_tokens e ++ ts) f.1
-      ∙ expr_reads limit d inside (where_marks inside marked w) (λ m e. k m (q.For (clause_tree c ∷ clauses_tree cs) (where_tree w) e)) e ts f.2 h)
+      ∙ expr_reads limit d inside (where_marks inside marked w) (λ m e. k m (q.QueryFor (clause_tree c ∷ clauses_tree cs) (where_tree w) e)) e ts f.2 h)
   expr_reads limit n sc m k (g.if_expr c a b) ts f h =
       let d = n + 1 in
-      let other : QueryCondTree → Marks → ExprTree → State = λ c m a. expr d sc m (λ m b. k m (q.If c a b)) in
+      let other : QueryCondTree → Marks → ExprTree → State = λ c m a. expr d sc m (λ m b. k m (q.QueryIf c a b)) in
       let this : Marks → QueryCondTree → State = λ m c. expr d sc m (λ m a. word else_ (other c m a)) in
       let next : Marks → QueryCondTree → State = λ m c. sign signs.ParenClose (word then_ (this m c)) in
       let last : List Token = TName else_ ∷ (expr_tokens b ++ ts) in
@@ -433,7 +433,7 @@ mutual
       ∙ cond_reads limit d sc m next c (TSign signs.ParenClose ∷ TName then_ ∷ ((expr_tokens a ++ (TName else_ ∷ expr_tokens b)) ++ ts)) f.1 (record { all = record { path = refl; ands = refl }; ors = refl })
       ∙ ap (reads limit (this marked (derived_cond c))) (append_assoc (expr_tokens a) (TName else_ ∷ expr_tokens b) ts)
       ∙ expr_reads limit d sc marked (λ m a. word else_ (other (derived_cond c) m a)) a last f.2 refl
-      ∙ expr_reads limit d sc (expr_marks sc marked a) (λ m b. k m (q.If (derived_cond c) (derived_expr a) b)) b ts f.3 h)
+      ∙ expr_reads limit d sc (expr_marks sc marked a) (λ m b. k m (q.QueryIf (derived_cond c) (derived_expr a) b)) b ts f.3 h)
   expr_reads limit n sc m k (g.elem_expr x t) ts f h = rw (f.0) (tag_reads limit (n + 1) sc m x (λ m es. k m (q.Elem x (exprs_of es))) t ts f.1)
   expr_reads limit n sc m k (g.paren_expr i) ts f h = rw (f.0) (inner_reads limit (n + 1) sc m k i ts f.1)
   expr_reads limit n sc m k (g.path_expr p) ts f h = expr_first limit n sc m k p ts ∙ path_reads limit (path_seen sc m k) p ts h

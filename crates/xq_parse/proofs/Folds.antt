@@ -9,7 +9,7 @@ use Rattle.xq_parse.specs.Grammar.{step_tree, path_tree, source_tree}
 use Rattle.xq_parse.specs.Places.{Scope, step_place, path_late, source_late, clause_scope, clauses_scope}
 use Rattle.xq_parse.specs.Machine.{added, seen, seen_in_order}
 
-abbrev pub trail_behind : Trail → g.Steps → Trail
+abbrev pub trail_behind : Trail → g.StepsSyntax → Trail
 trail_behind t g.no_step = t
 trail_behind t (g.more_steps s ss) = trail_behind (added t (step_place s) (step_tree s)) ss
 
@@ -60,7 +60,7 @@ abbrev mutual
   atom_marks sc m (g.compared p r o) = operand_marks sc (path_marks sc m p) o
   atom_marks sc m (g.literal_first l r p) = path_marks sc m p
 
-abbrev pub clause_marks : Scope → Marks → g.Clause → Marks
+abbrev pub clause_marks : Scope → Marks → g.ClauseSyntax → Marks
 clause_marks sc m (g.clause at x s) = seen_in_order sc m (source_route s)
 
 abbrev pub clauses_marks : Scope → Marks → g.Clauses → Marks

@@ -26,9 +26,9 @@ reads limit s (t ∷ ts) = onto (step limit s t) (λ u. reads limit u ts)
 
 -- behind a `/`: a test with an axis or without
 pub data AxisTest : Type 0 where
-  child_axis : g.Test → AxisTest
-  descendant_axis : g.Test → AxisTest
-  no_axis : g.Test → AxisTest
+  child_axis : g.TestSyntax → AxisTest
+  descendant_axis : g.TestSyntax → AxisTest
+  no_axis : g.TestSyntax → AxisTest
 
 abbrev pub axis_tree : AxisTest → Step
 axis_tree (child_axis t) = a_step axes.Child (test_tree t)
@@ -42,7 +42,7 @@ axis_tokens (no_axis t) = test_tokens t
 
 -- behind `child` or `descendant`, and behind `text` or `node`
 pub data Behind : Type 0 where
-  colons : g.Test → Behind
+  colons : g.TestSyntax → Behind
   bare : Behind
 
 abbrev pub colons_tokens : Behind → List Token
@@ -80,10 +80,10 @@ Lang limit (var k) ts f = (at : ℕ) × (x : List ℕ) × Begins (TVar at x ∷ 
 Lang limit (name k) ts f = (x : List ℕ) × Begins (TName x ∷ []) ts (λ ws. Lang limit (k x) ws f)
 Lang limit (axis k) ts f = (a : AxisTest) × Begins (axis_tokens a) ts (λ ws. Lang limit (k (axis_tree a)) ws f)
 Lang limit (axis_or_name x k) ts f = (b : Behind) × Begins (colons_tokens b) ts (λ ws. Lang limit (k (colons_tree x b)) ws f)
-Lang limit (test d k) ts f = (t : g.Test) × Begins (test_tokens t) ts (λ ws. Lang limit (k (a_step d (test_tree t))) ws f)
+Lang limit (test d k) ts f = (t : g.TestSyntax) × Begins (test_tokens t) ts (λ ws. Lang limit (k (a_step d (test_tree t))) ws f)
 Lang limit (call_or_name d x k) ts f = (c : Call) × Begins (call_tokens c) ts (λ ws. Lang limit (k (call_tree d x c)) ws f)
-Lang limit (first_step k) ts f = (s : g.Step) × Begins (step_tokens s) ts (λ ws. Lang limit (k (step_place s) (step_tree s)) ws f)
-Lang limit (steps t k) ts f = (s : g.Steps) × Begins (steps_tokens s) ts (λ ws. Lang limit (k (trail_behind t s)) ws f)
+Lang limit (first_step k) ts f = (s : g.StepSyntax) × Begins (step_tokens s) ts (λ ws. Lang limit (k (step_place s) (step_tree s)) ws f)
+Lang limit (steps t k) ts f = (s : g.StepsSyntax) × Begins (steps_tokens s) ts (λ ws. Lang limit (k (trail_behind t s)) ws f)
 Lang limit (source k) ts f = (s : g.Source) × Begins (source_tokens s) ts (λ ws. Lang limit (k (source_route s)) ws f)
 Lang limit (path k) ts f = (s : g.Path) × Begins (path_tokens s) ts (λ ws. Lang limit (k (path_route s)) ws f)
 Lang limit (rel k) ts f = (r : Rel) × Begins (TSign (rel_sign r) ∷ []) ts (λ ws. Lang limit (k r) ws f)

@@ -84,7 +84,7 @@ mutual
   atom_noted sc m (g.compared p r o) = two m (path_marks sc m p) _ (path_unknown sc p) [] (operand_unknown sc o) [] (path_noted sc m p) (operand_noted sc (path_marks sc m p) o)
   atom_noted sc m (g.literal_first l r p) = path_noted sc m p
 
-clause_noted : (sc : Scope) (m : Marks) (c : g.Clause) → clause_marks sc m c ≡ noted m (clause_unknown sc c) (clause_late c)
+clause_noted : (sc : Scope) (m : Marks) (c : g.ClauseSyntax) → clause_marks sc m c ≡ noted m (clause_unknown sc c) (clause_late c)
 clause_noted sc m (g.clause at x s) = ap (λ (u : Option ℕ). a_mark (or_else m.unknown u) (or_else m.late (head (source_late s)))) (unbound_source sc s)
 
 clauses_noted : (sc : Scope) (m : Marks) (cs : g.Clauses) → clauses_marks sc m cs ≡ noted m (clauses_unknown sc cs) (clauses_late cs)

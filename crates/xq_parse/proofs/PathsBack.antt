@@ -95,7 +95,7 @@ seq2 a b r p q = p ∙ ap (λ (l : List Token). a ++ l) q ∙ sym (append_assoc 
 pub test_back : (limit : ℕ) (d : Axis) (k : Step → State) (t : Token) (w : List Token) (p : Found) (u : State) → at_test d k t ≡ okay u → Lang limit u w p → Lang limit (test d k) (t ∷ w) p
 test_back limit d k (TName x) w p u e h = go (picked (bytes_eq x text_ || bytes_eq x node_) (call_or_name d x k) (k (a_step d (tests.Named x))) u e)
   where
-    word_call : (y : List ℕ) → x ≡ y → (t : g.Test) → test_tokens t ≡ TName y ∷ TSign signs.ParenOpen ∷ TSign signs.ParenClose ∷ [] → test_tree t ≡ kind_test y → Begins (call_tokens called) w (λ ws. Lang limit (k (a_step d (kind_test x))) ws p) → Lang limit (test d k) (TName x ∷ w) p
+    word_call : (y : List ℕ) → x ≡ y → (t : g.TestSyntax) → test_tokens t ≡ TName y ∷ TSign signs.ParenOpen ∷ TSign signs.ParenClose ∷ [] → test_tree t ≡ kind_test y → Begins (call_tokens called) w (λ ws. Lang limit (k (a_step d (kind_test x))) ws p) → Lang limit (test d k) (TName x ∷ w) p
     word_call y xy t i j b = (t, record { behind = b.behind; parts = ap (λ (l : List Token). TName x ∷ l) b.parts ∙ ap (λ (v : List ℕ). TName v ∷ TSign signs.ParenOpen ∷ TSign signs.ParenClose ∷ b.behind) xy ∙ ap (λ (l : List Token). l ++ b.behind) (sym i); goes_on = subst (λ (v : NodeTest). Lang limit (k (a_step d v)) b.behind p) (ap kind_test xy ∙ sym j) b.goes_on })
 
     with_call : (c : Call) → Begins (call_tokens c) w (λ ws. Lang limit (k (call_tree d x c)) ws p) → (bytes_eq x text_ ≡ true) ⊎ (bytes_eq x node_ ≡ true) → Lang limit (test d k) (TName x ∷ w) p
@@ -120,7 +120,7 @@ no_axis_back limit k ts p l = (no_axis l.0, l.1)
 pub axis_back : (limit : ℕ) (k : Step → State) (t : Token) (w : List Token) (p : Found) (u : State) → at_axis k t ≡ okay u → Lang limit u w p → Lang limit (axis k) (t ∷ w) p
 axis_back limit k (TName x) w p u e h = go (chosen (bytes_eq x child_ || bytes_eq x descendant_) (Ok (axis_or_name x k)) (at_test axes.Child k (TName x)) (okay u) e)
   where
-    word_colons : (y : List ℕ) → x ≡ y → (t : g.Test) (a : AxisTest) → axis_tokens a ≡ TName y ∷ TSign signs.Axis ∷ test_tokens t → axis_tree a ≡ colons_tree y (colons t) → Begins (colons_tokens (colons t)) w (λ ws. Lang limit (k (colons_tree x (colons t))) ws p) → Lang limit (axis k) (TName x ∷ w) p
+    word_colons : (y : List ℕ) → x ≡ y → (t : g.TestSyntax) (a : AxisTest) → axis_tokens a ≡ TName y ∷ TSign signs.Axis ∷ test_tokens t → axis_tree a ≡ colons_tree y (colons t) → Begins (colons_tokens (colons t)) w (λ ws. Lang limit (k (colons_tree x (colons t))) ws p) → Lang limit (axis k) (TName x ∷ w) p
     word_colons y xy t a i j b = (a, record { behind = b.behind; parts = ap (λ (l : List Token). TName x ∷ l) b.parts ∙ ap (λ (v : List ℕ). TName v ∷ TSign signs.Axis ∷ (test_tokens t ++ b.behind)) xy ∙ ap (λ (l : List Token). l ++ b.behind) (sym i); goes_on = subst (λ (v : Step). Lang limit (k v) b.behind p) (ap (λ (v : List ℕ). colons_tree v (colons t)) xy ∙ sym j) b.goes_on })
 
     with_colons : (c : Behind) → Begins (colons_tokens c) w (λ ws. Lang limit (k (colons_tree x c)) ws p) → (bytes_eq x child_ ≡ true) ⊎ (bytes_eq x descendant_ ≡ true) → Lang limit (axis k) (TName x ∷ w) p

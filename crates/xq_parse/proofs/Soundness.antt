@@ -47,17 +47,17 @@ both x y us vs e f = ap (λ (a : Bool). a && y) e ∙ ap (λ (b : Bool). none us
 
 -- ---- paths
 
-none_descent : (s : g.Step) (xs : List ℕ) → is_child (step_tree s).axis && none xs ≡ none (descent s ++ xs)
+none_descent : (s : g.StepSyntax) (xs : List ℕ) → is_child (step_tree s).axis && none xs ≡ none (descent s ++ xs)
 none_descent (g.plain at t) xs = refl
 none_descent (g.child at t) xs = refl
 none_descent (g.descendant at t) xs = refl
 none_descent (g.double at t) xs = refl
 
-behind_last : (s : g.Step) (ss : g.Steps) → only_last (step_tree s ∷ steps_tree ss) ≡ none (late_behind s ss)
+behind_last : (s : g.StepSyntax) (ss : g.StepsSyntax) → only_last (step_tree s ∷ steps_tree ss) ≡ none (late_behind s ss)
 behind_last s g.no_step = refl
 behind_last s (g.more_steps u us) = ap (λ (b : Bool). is_child (step_tree s).axis && b) (behind_last u us) ∙ none_descent s (late_behind u us)
 
-steps_last : (ss : g.Steps) → only_last (steps_tree ss) ≡ none (steps_late ss)
+steps_last : (ss : g.StepsSyntax) → only_last (steps_tree ss) ≡ none (steps_late ss)
 steps_last g.no_step = refl
 steps_last (g.more_steps s ss) = behind_last s ss
 

@@ -107,21 +107,21 @@ group_calm n sc m k h = cond_calm n sc m (λ m c. sign signs.ParenClose (k m c))
 
 not_calm : (n : ℕ) (sc : Scope) (m : Marks) (k : Marks → QueryCondTree → State) → CalmCond k → Calm (not_state n sc m k)
 unfolding not_state
-not_calm n sc m k h = ((group_calm n sc m (λ m c. k m (q.Not c)) (λ (m : Marks) (c : QueryCondTree). h m (q.Not c)), refl), tt)
+not_calm n sc m k h = ((group_calm n sc m (λ m c. k m (q.QueryNot c)) (λ (m : Marks) (c : QueryCondTree). h m (q.QueryNot c)), refl), tt)
 
 true_calm : (m : Marks) (k : Marks → QueryCondTree → State) → CalmCond k → Calm (true_state m k)
-true_calm m k h = (((((h m q.Always, refl), tt), refl)), tt)
+true_calm m k h = (((((h m q.QueryAlways, refl), tt), refl)), tt)
 
 exists_calm : (sc : Scope) (m : Marks) (k : Marks → QueryCondTree → State) → CalmCond k → Calm (exists_state sc m k)
 unfolding exists_state
-exists_calm sc m k h = (((λ (r : Route). ((h (seen sc m r) (q.Exists r.path), refl), tt), tt), refl), tt)
+exists_calm sc m k h = (((λ (r : Route). ((h (seen sc m r) (q.QueryExists r.path), refl), tt), tt), refl), tt)
 
 literal_calm : (l : QOperand) (sc : Scope) (m : Marks) (k : Marks → QueryCondTree → State) → CalmCond k → Calm (literal_state l sc m k)
 unfolding literal_state
-literal_calm l sc m k h = (λ (c : Rel). (λ (r : Route). h (seen sc m r) (q.Compare l c (sides.Path r.path)), tt), tt)
+literal_calm l sc m k h = (λ (c : Rel). (λ (r : Route). h (seen sc m r) (q.QueryCompare l c (sides.Path r.path)), tt), tt)
 
 compare_calm : (sc : Scope) (m : Marks) (k : Marks → QueryCondTree → State) → CalmCond k → (r : Route) → Calm (compare_state sc m k r)
-compare_calm sc m k h r = (λ (c : Rel). (λ (m : Marks) (o : QOperand). h m (q.Compare (sides.Path r.path) c o), tt), tt)
+compare_calm sc m k h r = (λ (c : Rel). (λ (m : Marks) (o : QOperand). h m (q.QueryCompare (sides.Path r.path) c o), tt), tt)
 
 clause_calm : (sc : Scope) (m : Marks) (k : Marks → Clause → State) → ((m : Marks) (c : Clause) → Calm (k m c)) → Calm (clause_state sc m k)
 unfolding clause_state
@@ -130,14 +130,14 @@ clause_calm sc m k h = (λ (x : List ℕ). ((λ (r : Route). h (seen_in_order sc
 for_calm : (n : ℕ) (sc : Scope) (m : Marks) (k : Marks → ExprTree → State) → CalmExpr k → Calm (for_state n sc m k)
 unfolding for_state
 for_calm n sc m k h =
-    clause_calm sc m (more_clauses sc [] (λ sc m cs. condition n sc m (λ m w. word return_ (expr n sc m (λ m e. k m (q.For cs w e))))))
-    (λ (m : Marks) (c : Clause). (λ (sc : Scope) (m : Marks) (cs : List Clause). (λ (m : Marks) (w : Option QueryCondTree). ((λ (m : Marks) (e : ExprTree). h m (q.For cs w e), tt), tt), tt), tt))
+    clause_calm sc m (more_clauses sc [] (λ sc m cs. condition n sc m (λ m w. word return_ (expr n sc m (λ m e. k m (q.QueryFor cs w e))))))
+    (λ (m : Marks) (c : Clause). (λ (sc : Scope) (m : Marks) (cs : List Clause). (λ (m : Marks) (w : Option QueryCondTree). ((λ (m : Marks) (e : ExprTree). h m (q.QueryFor cs w e), tt), tt), tt), tt))
 
 if_calm : (n : ℕ) (sc : Scope) (m : Marks) (k : Marks → ExprTree → State) → CalmExpr k → Calm (if_state n sc m k)
 unfolding if_state head_state
 if_calm n sc m k h =
-    let next : Marks → QueryCondTree → State = λ m c. sign signs.ParenClose (word then_ (expr n sc m (λ m a. word else_ (expr n sc m (λ m b. k m (q.If c a b)))))) in
-    ((cond_calm n sc m next (λ (m : Marks) (c : QueryCondTree). (((((λ (m : Marks) (a : ExprTree). ((λ (m : Marks) (b : ExprTree). h m (q.If c a b), tt), tt), tt), tt), refl)), tt)), refl), tt)
+    let next : Marks → QueryCondTree → State = λ m c. sign signs.ParenClose (word then_ (expr n sc m (λ m a. word else_ (expr n sc m (λ m b. k m (q.QueryIf c a b)))))) in
+    ((cond_calm n sc m next (λ (m : Marks) (c : QueryCondTree). (((((λ (m : Marks) (a : ExprTree). ((λ (m : Marks) (b : ExprTree). h m (q.QueryIf c a b), tt), tt), tt), tt), refl)), tt)), refl), tt)
 
 elem_calm : (n : ℕ) (sc : Scope) (m : Marks) (k : Marks → ExprTree → State) → CalmExpr k → Calm (elem_state n sc m k)
 unfolding elem_state
@@ -217,7 +217,7 @@ expr_kept limit n sc m k (TName x) h =
     (kept_cond (bytes_eq x if_) (TName x) (opens limit n (if_state (n + 1) sc m k)) (Err Syntax) (opens_kept limit n (TName x) (if_state (n + 1) sc m k) (if_calm (n + 1) sc m k h)) tt)
 expr_kept limit n sc m k (TSign signs.Lt) h = opens_kept limit n (TSign signs.Lt) (elem_state (n + 1) sc m k) (elem_calm (n + 1) sc m k h)
 expr_kept limit n sc m k (TSign signs.ParenOpen) h = opens_kept limit n (TSign signs.ParenOpen) (inner (n + 1) sc m k) (h, tt)
-expr_kept limit n sc m k t h = path_kept (path_seen sc m k) t (λ (r : Route). h (seen_in_order sc m r) (q.Path r.path))
+expr_kept limit n sc m k t h = path_kept (path_seen sc m k) t (λ (r : Route). h (seen_in_order sc m r) (q.QueryPath r.path))
 
 content_kept : (limit n : ℕ) (sc : Scope) (m : Marks) (x : List ℕ) (es : List ExprTree) (k : Marks → List ExprTree → State) (t : Token) → CalmExprs k → Kept t (at_content limit n sc m x es k t)
 content_kept limit n sc m x es k (TSign signs.EndTag) h = ((((h m es, refl)), tt), tt)

@@ -4,8 +4,8 @@ use Rattle.std.specs.Prelude.{slice_get}
 use Rattle.std.proofs.lemmas.List.{length-append}
 use Rattle.std.proofs.lemmas.Bool.{and_parts}
 use Rattle.gcx_model.specs.declared.fault.QueryFault.{QueryFault}
-use Rattle.gcx_model.specs.declared.fault.QueryFault.TheVariants.{Utf8, Lex, Syntax, UnknownVar, TagMismatch, DescendantNotLast, IntegerWide, TooLarge, Memory}
-use Rattle.gcx_model.specs.declared.fault.What.TheVariants.{Text, Nesting, Loops, Steps, Conditions, Roles, Descendants}
+use Rattle.gcx_model.specs.declared.fault.QueryFault.TheVariants as query_faults
+use Rattle.gcx_model.specs.declared.fault.What.TheVariants as sizes
 use Rattle.gcx_model.specs.Paths.{head}
 use Rattle.gcx_model.specs.Query.{ExprTree}
 use Rattle.gcx_model.specs.Sound.{is_sound}
@@ -183,8 +183,8 @@ pub answered : (ts : List Tok) (end : ℕ) (q : List ExprTree) → judged ts end
 answered ts end q e = go (given ts end)
   where
     marked : (d : Derivation) → Derives 200 (tokens_of ts) d → (u l : Option ℕ) → head (unknown_of d) ≡ u → head (late_of d) ≡ l → judge_marks u l (derivation_tree d) ≡ Ok q → IsQuery ts q
-    marked d s (Some at) l x y v = absurd (ok_not_err q (UnknownVar at) (sym v))
-    marked d s None (Some at) x y v = absurd (ok_not_err q (DescendantNotLast at) (sym v))
+    marked d s (Some at) l x y v = absurd (ok_not_err q (query_faults.UnknownVar at) (sym v))
+    marked d s None (Some at) x y v = absurd (ok_not_err q (query_faults.DescendantNotLast at) (sym v))
     marked d s None None x y v = record { derivation = d; derives = s; tree = ok_is (derivation_tree d) q v; known = head_none (unknown_of d) x; in_order = head_none (late_of d) y }
 
     go : Judged ts end ⊎ Stops ts end → IsQuery ts q
@@ -207,8 +207,8 @@ pub refused : (ts : List Tok) (end : ℕ) (f : QueryFault) → judged ts end ≡
 refused ts end f e = go (given ts end)
   where
     marked : (d : Derivation) → Derives 200 (tokens_of ts) d → (u l : Option ℕ) → head (unknown_of d) ≡ u → head (late_of d) ≡ l → judge_marks u l (derivation_tree d) ≡ Err f → GrammarFault ts end f
-    marked d s (Some at) l x y v = subst (GrammarFault ts end) (err_is (UnknownVar at) f v) (d, s, head_some (unknown_of d) at x)
-    marked d s None (Some at) x y v = subst (GrammarFault ts end) (err_is (DescendantNotLast at) f v) (d, s, (head_none (unknown_of d) x, head_some (late_of d) at y))
+    marked d s (Some at) l x y v = subst (GrammarFault ts end) (err_is (query_faults.UnknownVar at) f v) (d, s, head_some (unknown_of d) at x)
+    marked d s None (Some at) x y v = subst (GrammarFault ts end) (err_is (query_faults.DescendantNotLast at) f v) (d, s, (head_none (unknown_of d) x, head_some (late_of d) at y))
     marked d s None None x y v = absurd (ok_not_err (derivation_tree d) f v)
 
     go : Judged ts end ⊎ Stops ts end → GrammarFault ts end f
@@ -246,35 +246,35 @@ token_judged ts end at K why is h = go (given ts end)
     go (inl j) = absurd (bad_whole ts at K h (whole_viable ts j.derivation j.derives))
     go (inr k) = stopped k k.stopped
 
-soon_judged : (ts : List Tok) (end : ℕ) → EndsSoon ts → judged ts end ≡ Err (Syntax end)
+soon_judged : (ts : List Tok) (end : ℕ) → EndsSoon ts → judged ts end ≡ Err (query_faults.Syntax end)
 soon_judged ts end s = go (given ts end)
   where
-    stopped : (k : Stops ts end) → Stopped ts k.stop → judged ts end ≡ Err (Syntax end)
+    stopped : (k : Stops ts end) → Stopped ts k.stop → judged ts end ≡ Err (query_faults.Syntax end)
     stopped k (inl r) = absurd (bad_front r.front r.behind r.token r.bad (subst (λ (l : List Tok). Viable 200 (tokens_of l)) r.parts s.good))
-    stopped k (inr r) = k.verdict ∙ ap (λ (w : Why). let e : Verdict = Err (fault_at w (place_at ts k.stop.left end)) in e) r.why ∙ ap (λ (n : ℕ). let e : Verdict = Err (Syntax n) in e) (ap (λ (n : ℕ). place_at ts n end) r.left ∙ place_end ts end)
+    stopped k (inr r) = k.verdict ∙ ap (λ (w : Why). let e : Verdict = Err (fault_at w (place_at ts k.stop.left end)) in e) r.why ∙ ap (λ (n : ℕ). let e : Verdict = Err (query_faults.Syntax n) in e) (ap (λ (n : ℕ). place_at ts n end) r.left ∙ place_end ts end)
 
-    go : Judged ts end ⊎ Stops ts end → judged ts end ≡ Err (Syntax end)
+    go : Judged ts end ⊎ Stops ts end → judged ts end ≡ Err (query_faults.Syntax end)
     go (inl j) = absurd (s.bad j.derivation j.derives)
     go (inr k) = stopped k k.stopped
 
 -- The fault of tokens is what the machine gives.
 pub fault_judged : (ts : List Tok) (end : ℕ) (f : QueryFault) → GrammarFault ts end f → judged ts end ≡ Err f
-fault_judged ts end (Syntax at) (inl h) = token_judged ts end at IsSyntax whys.Syntax syntax_is h
-fault_judged ts end (Syntax at) (inr s) = soon_judged ts end s.1 ∙ ap (λ (n : ℕ). let e : Verdict = Err (Syntax n) in e) (sym s.0)
-fault_judged ts end (TagMismatch at) h = token_judged ts end at IsTagMismatch whys.TagMismatch mismatch_is h
-fault_judged ts end (TooLarge Nesting limit) h = token_judged ts end h.1.0 IsTooDeep whys.Nesting nesting_is h.1.1 ∙ ap (λ (n : ℕ). let e : Verdict = Err (TooLarge Nesting n) in e) (sym h.0)
-fault_judged ts end (UnknownVar at) h = derived_judged ts end h.0 h.1 ∙ ap (λ (o : Option ℕ). judge_marks o (head (late_of h.0)) (derivation_tree h.0)) (ap head h.2.1)
-fault_judged ts end (DescendantNotLast at) h = derived_judged ts end h.0 h.1 ∙ ap (λ (o : Option ℕ). judge_marks o (head (late_of h.0)) (derivation_tree h.0)) (ap head h.2.0) ∙ ap (λ (o : Option ℕ). judge_marks None o (derivation_tree h.0)) (ap head h.2.1.1)
-fault_judged ts end (TooLarge Text limit) h = absurd h
-fault_judged ts end (TooLarge Loops limit) h = absurd h
-fault_judged ts end (TooLarge Steps limit) h = absurd h
-fault_judged ts end (TooLarge Conditions limit) h = absurd h
-fault_judged ts end (TooLarge Roles limit) h = absurd h
-fault_judged ts end (TooLarge Descendants limit) h = absurd h
-fault_judged ts end (Utf8 at) h = absurd h
-fault_judged ts end (Lex at) h = absurd h
-fault_judged ts end (IntegerWide at) h = absurd h
-fault_judged ts end Memory h = absurd h
+fault_judged ts end (query_faults.Syntax at) (inl h) = token_judged ts end at IsSyntax whys.Syntax syntax_is h
+fault_judged ts end (query_faults.Syntax at) (inr s) = soon_judged ts end s.1 ∙ ap (λ (n : ℕ). let e : Verdict = Err (query_faults.Syntax n) in e) (sym s.0)
+fault_judged ts end (query_faults.TagMismatch at) h = token_judged ts end at IsTagMismatch whys.TagMismatch mismatch_is h
+fault_judged ts end (query_faults.TooLarge sizes.Nesting limit) h = token_judged ts end h.1.0 IsTooDeep whys.Nesting nesting_is h.1.1 ∙ ap (λ (n : ℕ). let e : Verdict = Err (query_faults.TooLarge sizes.Nesting n) in e) (sym h.0)
+fault_judged ts end (query_faults.UnknownVar at) h = derived_judged ts end h.0 h.1 ∙ ap (λ (o : Option ℕ). judge_marks o (head (late_of h.0)) (derivation_tree h.0)) (ap head h.2.1)
+fault_judged ts end (query_faults.DescendantNotLast at) h = derived_judged ts end h.0 h.1 ∙ ap (λ (o : Option ℕ). judge_marks o (head (late_of h.0)) (derivation_tree h.0)) (ap head h.2.0) ∙ ap (λ (o : Option ℕ). judge_marks None o (derivation_tree h.0)) (ap head h.2.1.1)
+fault_judged ts end (query_faults.TooLarge sizes.Text limit) h = absurd h
+fault_judged ts end (query_faults.TooLarge sizes.Loops limit) h = absurd h
+fault_judged ts end (query_faults.TooLarge sizes.Steps limit) h = absurd h
+fault_judged ts end (query_faults.TooLarge sizes.Conditions limit) h = absurd h
+fault_judged ts end (query_faults.TooLarge sizes.Roles limit) h = absurd h
+fault_judged ts end (query_faults.TooLarge sizes.Descendants limit) h = absurd h
+fault_judged ts end (query_faults.Utf8 at) h = absurd h
+fault_judged ts end (query_faults.Lex at) h = absurd h
+fault_judged ts end (query_faults.IntegerWide at) h = absurd h
+fault_judged ts end query_faults.Memory h = absurd h
 
 pub one_fault : (ts : List Tok) (end : ℕ) (f g : QueryFault) → judged ts end ≡ Err f → GrammarFault ts end g → g ≡ f
 one_fault ts end f g e h = err_is g f (sym (fault_judged ts end g h) ∙ e)

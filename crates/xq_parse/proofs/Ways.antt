@@ -24,7 +24,7 @@ use Rattle.xq_parse.proofs.Back.{call_over, colons_over, no_and_back, no_clause_
 abbrev pub Way : ℕ → State → Type 0
 Way limit s = (ts : List Token) × (p : Found) × Lang limit s ts p
 
-abbrev any_step : g.Step
+abbrev any_step : g.StepSyntax
 any_step = g.plain 0 g.star_test
 
 abbrev any_path : g.Path
@@ -57,10 +57,10 @@ way limit (source k) = then_on limit (source_tokens any_source) (k (source_route
 way limit (path k) = then_on limit (path_tokens any_path) (k (path_route any_path)) (path k) (λ ts p l. (any_path, record { behind = ts; parts = refl; goes_on = l })) (way limit (k (path_route any_path)))
 way limit (rel k) = then_on limit (TSign signs.Eq ∷ []) (k rels.Eq) (rel k) (λ ts p l. (rels.Eq, record { behind = ts; parts = refl; goes_on = l })) (way limit (k rels.Eq))
 way limit (operand sc m k) = then_on limit (TStr [] ∷ []) (k m (sides.Str [])) (operand sc m k) (λ ts p l. (g.literal_operand (g.text []), record { behind = ts; parts = refl; goes_on = l })) (way limit (k m (sides.Str [])))
-way limit (atom n sc m k) = then_on limit (atom_tokens g.always) (k m q.Always) (atom n sc m k) (λ ts p l. (g.always, tt, record { behind = ts; parts = refl; goes_on = l })) (way limit (k m q.Always))
+way limit (atom n sc m k) = then_on limit (atom_tokens g.always) (k m q.QueryAlways) (atom n sc m k) (λ ts p l. (g.always, tt, record { behind = ts; parts = refl; goes_on = l })) (way limit (k m q.QueryAlways))
 way limit (ands n sc m bs k) = then_on limit [] (k m bs) (ands n sc m bs k) (λ ts p l. no_and_back limit n sc m bs k ts p l) (way limit (k m bs))
 way limit (ors n sc m bs k) = then_on limit [] (k m bs) (ors n sc m bs k) (λ ts p l. no_or_back limit n sc m bs k ts p l) (way limit (k m bs))
-way limit (expr n sc m k) = then_on limit (path_tokens any_path) (k (expr_marks sc m (g.path_expr any_path)) (q.Path (path_tree any_path))) (expr n sc m k) (λ ts p l. (g.path_expr any_path, tt, record { behind = ts; parts = refl; goes_on = l })) (way limit (k (expr_marks sc m (g.path_expr any_path)) (q.Path (path_tree any_path))))
+way limit (expr n sc m k) = then_on limit (path_tokens any_path) (k (expr_marks sc m (g.path_expr any_path)) (q.QueryPath (path_tree any_path))) (expr n sc m k) (λ ts p l. (g.path_expr any_path, tt, record { behind = ts; parts = refl; goes_on = l })) (way limit (k (expr_marks sc m (g.path_expr any_path)) (q.QueryPath (path_tree any_path))))
 way limit (rest n sc m es k) = then_on limit [] (k m es) (rest n sc m es k) (λ ts p l. no_rest_back limit n sc m es k ts p l) (way limit (k m es))
 way limit (inner n sc m k) = then_on limit (TSign signs.ParenClose ∷ []) (k m q.Empty) (inner n sc m k) (λ ts p l. (g.closed, tt, record { behind = ts; parts = refl; goes_on = l })) (way limit (k m q.Empty))
 way limit (clauses sc m cs k) = then_on limit [] (k sc m cs) (clauses sc m cs k) (λ ts p l. no_clause_back limit sc m cs k ts p l) (way limit (k sc m cs))

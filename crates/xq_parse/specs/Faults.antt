@@ -1,11 +1,11 @@
 -- Why a text is refused (this project's language).
 use Rattle.std.specs.Prelude.{ℕ, ◌≡◌, ◌≤◌, List, [], ◌∷◌, ◌++◌, length, ◌⊎◌, true}
 use Rattle.gcx_model.specs.declared.fault.QueryFault.{QueryFault}
-use Rattle.gcx_model.specs.declared.fault.QueryFault.TheVariants.{Utf8, Lex, Syntax, UnknownVar, TagMismatch, DescendantNotLast, IntegerWide, TooLarge, Memory}
-use Rattle.gcx_model.specs.declared.fault.What.TheVariants.{Text, Nesting, Loops, Steps, Conditions, Roles, Descendants}
+use Rattle.gcx_model.specs.declared.fault.QueryFault.TheVariants as query_faults
+use Rattle.gcx_model.specs.declared.fault.What.TheVariants as sizes
 use Rattle.gcx_model.specs.Query.{ExprTree}
 use Rattle.gcx_model.specs.Sound.{is_sound}
-use Rattle.xq_lex.specs.declared.sign.Sign.TheVariants.{EndTag}
+use Rattle.xq_lex.specs.declared.sign.Sign.TheVariants as signs
 use Rattle.xq_lex.specs.declared.token.Tok.{Tok}
 use Rattle.xq_lex.specs.Lex.{LexFault}
 use Rattle.xq_parse.specs.Tokens.{Token, TName, TSign, tokens_of}
@@ -23,7 +23,7 @@ IsTooDeep front = (limit : ℕ) × (200 ≤ limit) × Viable limit front
 pub record EndsWithTagName (front : List Token) : Type 0 where
   pub before : List Token
   pub name : List ℕ
-  pub parts : front ≡ before ++ (TSign EndTag ∷ TName name ∷ [])
+  pub parts : front ≡ before ++ (TSign signs.EndTag ∷ TName name ∷ [])
 
 abbrev pub IsTagMismatch : List Token → Type 0
 IsTagMismatch front = ¬ (IsTooDeep front) × EndsWithTagName front
@@ -59,21 +59,21 @@ BeginsAt places at = (others : List ℕ) × (places ≡ at ∷ others)
 
 -- What is wrong with the tokens of a text that ends at byte `end`: their grammar; else their variables; else their steps.
 abbrev pub GrammarFault : (ts : List Tok) (end : ℕ) → QueryFault → Type 0
-GrammarFault ts end (Syntax at) = HasFaultToken ts at IsSyntax ⊎ ((at ≡ end) × EndsSoon ts)
-GrammarFault ts end (TagMismatch at) = HasFaultToken ts at IsTagMismatch
-GrammarFault ts end (TooLarge Nesting limit) = (limit ≡ 200) × ((at : ℕ) × HasFaultToken ts at IsTooDeep)
-GrammarFault ts end (UnknownVar at) = IsDerivedWith ts (λ d. BeginsAt (unknown_of d) at)
-GrammarFault ts end (DescendantNotLast at) = IsDerivedWith ts (λ d. (unknown_of d ≡ []) × BeginsAt (late_of d) at)
-GrammarFault ts end (TooLarge Text limit) = ⊥
-GrammarFault ts end (TooLarge Loops limit) = ⊥
-GrammarFault ts end (TooLarge Steps limit) = ⊥
-GrammarFault ts end (TooLarge Conditions limit) = ⊥
-GrammarFault ts end (TooLarge Roles limit) = ⊥
-GrammarFault ts end (TooLarge Descendants limit) = ⊥
-GrammarFault ts end (Utf8 at) = ⊥
-GrammarFault ts end (Lex at) = ⊥
-GrammarFault ts end (IntegerWide at) = ⊥
-GrammarFault ts end Memory = ⊥
+GrammarFault ts end (query_faults.Syntax at) = HasFaultToken ts at IsSyntax ⊎ ((at ≡ end) × EndsSoon ts)
+GrammarFault ts end (query_faults.TagMismatch at) = HasFaultToken ts at IsTagMismatch
+GrammarFault ts end (query_faults.TooLarge sizes.Nesting limit) = (limit ≡ 200) × ((at : ℕ) × HasFaultToken ts at IsTooDeep)
+GrammarFault ts end (query_faults.UnknownVar at) = IsDerivedWith ts (λ d. BeginsAt (unknown_of d) at)
+GrammarFault ts end (query_faults.DescendantNotLast at) = IsDerivedWith ts (λ d. (unknown_of d ≡ []) × BeginsAt (late_of d) at)
+GrammarFault ts end (query_faults.TooLarge sizes.Text limit) = ⊥
+GrammarFault ts end (query_faults.TooLarge sizes.Loops limit) = ⊥
+GrammarFault ts end (query_faults.TooLarge sizes.Steps limit) = ⊥
+GrammarFault ts end (query_faults.TooLarge sizes.Conditions limit) = ⊥
+GrammarFault ts end (query_faults.TooLarge sizes.Roles limit) = ⊥
+GrammarFault ts end (query_faults.TooLarge sizes.Descendants limit) = ⊥
+GrammarFault ts end (query_faults.Utf8 at) = ⊥
+GrammarFault ts end (query_faults.Lex at) = ⊥
+GrammarFault ts end (query_faults.IntegerWide at) = ⊥
+GrammarFault ts end query_faults.Memory = ⊥
 
 -- TextFaultOf: for this reason the bytes have no tokens, or this is wrong with their tokens.
 abbrev pub TextFaultOf : (bytes : List ℕ) → QueryFault → Type 0

@@ -18,32 +18,32 @@ use Rattle.xq_lex.specs.declared.sign.Sign.TheVariants as signs
 use Rattle.xq_parse.specs.Tokens.{Token, TName, TVar, TNum, TStr, TSlash, TSlashes, TSign, for_, in_, where_, return_, if_, then_, else_, or_, and_, not_, true_, exists_, text_, node_, child_, descendant_}
 
 -- Test = Name | "*" | "text" "(" ")" | "node" "(" ")"
-pub data Test : Type 0 where
-  name_test : List ℕ → Test
-  star_test : Test
-  text_test : Test
-  node_test : Test
+pub data TestSyntax : Type 0 where
+  name_test : List ℕ → TestSyntax
+  star_test : TestSyntax
+  text_test : TestSyntax
+  node_test : TestSyntax
 
-abbrev pub test_tokens : Test → List Token
+abbrev pub test_tokens : TestSyntax → List Token
 test_tokens (name_test x) = TName x ∷ []
 test_tokens star_test = TSign signs.Star ∷ []
 test_tokens text_test = TName text_ ∷ TSign signs.ParenOpen ∷ TSign signs.ParenClose ∷ []
 test_tokens node_test = TName node_ ∷ TSign signs.ParenOpen ∷ TSign signs.ParenClose ∷ []
 
-abbrev pub test_tree : Test → NodeTest
+abbrev pub test_tree : TestSyntax → NodeTest
 test_tree (name_test x) = tests.Named x
 test_tree star_test = tests.AnyElement
 test_tree text_test = tests.AnyText
 test_tree node_test = tests.AnyNode
 
 -- Step = "/" [("child" | "descendant") "::"] Test | "//" Test      (the number is the place of its slash)
-pub data Step : Type 0 where
-  plain : (at : ℕ) → Test → Step
-  child : (at : ℕ) → Test → Step
-  descendant : (at : ℕ) → Test → Step
-  double : (at : ℕ) → Test → Step
+pub data StepSyntax : Type 0 where
+  plain : (at : ℕ) → TestSyntax → StepSyntax
+  child : (at : ℕ) → TestSyntax → StepSyntax
+  descendant : (at : ℕ) → TestSyntax → StepSyntax
+  double : (at : ℕ) → TestSyntax → StepSyntax
 
-abbrev pub step_tokens : Step → List Token
+abbrev pub step_tokens : StepSyntax → List Token
 step_tokens (plain at t) = TSlash at ∷ test_tokens t
 step_tokens (child at t) = TSlash at ∷ TName child_ ∷ TSign signs.Axis ∷ test_tokens t
 step_tokens (descendant at t) = TSlash at ∷ TName descendant_ ∷ TSign signs.Axis ∷ test_tokens t
@@ -52,29 +52,29 @@ step_tokens (double at t) = TSlashes at ∷ test_tokens t
 abbrev pub a_step : Axis → NodeTest → PathStep
 a_step a t = record { axis = a; test = t }
 
-abbrev pub step_tree : Step → PathStep
+abbrev pub step_tree : StepSyntax → PathStep
 step_tree (plain at t) = a_step axes.Child (test_tree t)
 step_tree (child at t) = a_step axes.Child (test_tree t)
 step_tree (descendant at t) = a_step axes.Descendant (test_tree t)
 step_tree (double at t) = a_step axes.Descendant (test_tree t)
 
 -- {Step}
-pub data Steps : Type 0 where
-  no_step : Steps
-  more_steps : Step → Steps → Steps
+pub data StepsSyntax : Type 0 where
+  no_step : StepsSyntax
+  more_steps : StepSyntax → StepsSyntax → StepsSyntax
 
-abbrev pub steps_tokens : Steps → List Token
+abbrev pub steps_tokens : StepsSyntax → List Token
 steps_tokens no_step = []
 steps_tokens (more_steps s ss) = step_tokens s ++ steps_tokens ss
 
-abbrev pub steps_tree : Steps → List PathStep
+abbrev pub steps_tree : StepsSyntax → List PathStep
 steps_tree no_step = []
 steps_tree (more_steps s ss) = step_tree s ∷ steps_tree ss
 
 -- Path = Var {Step} | Step {Step}
 pub data Path : Type 0 where
-  from_var : (at : ℕ) (name : List ℕ) → Steps → Path
-  from_root : Step → Steps → Path
+  from_var : (at : ℕ) (name : List ℕ) → StepsSyntax → Path
+  from_root : StepSyntax → StepsSyntax → Path
 
 abbrev pub path_tokens : Path → List Token
 path_tokens (from_var at x ss) = TVar at x ∷ steps_tokens ss
@@ -89,8 +89,8 @@ path_tree (from_root s ss) = a_path None (step_tree s ∷ steps_tree ss)
 
 -- [Var] Step {Step}
 pub data Source : Type 0 where
-  in_var : (at : ℕ) (name : List ℕ) → Step → Steps → Source
-  in_root : Step → Steps → Source
+  in_var : (at : ℕ) (name : List ℕ) → StepSyntax → StepsSyntax → Source
+  in_root : StepSyntax → StepsSyntax → Source
 
 abbrev pub source_tokens : Source → List Token
 source_tokens (in_var at x s ss) = TVar at x ∷ (step_tokens s ++ steps_tokens ss)
@@ -137,14 +137,14 @@ rel_sign rels.Ge = signs.Ge
 
 -- one member alone is that member
 abbrev pub all_of : List QueryCondTree → QueryCondTree
-all_of [] = q.All (conds_of [])
+all_of [] = q.QueryAll (conds_of [])
 all_of (c ∷ []) = c
-all_of (c ∷ d ∷ ds) = q.All (conds_of (c ∷ d ∷ ds))
+all_of (c ∷ d ∷ ds) = q.QueryAll (conds_of (c ∷ d ∷ ds))
 
 abbrev pub any_of : List QueryCondTree → QueryCondTree
-any_of [] = q.Any (conds_of [])
+any_of [] = q.QueryAny (conds_of [])
 any_of (c ∷ []) = c
-any_of (c ∷ d ∷ ds) = q.Any (conds_of (c ∷ d ∷ ds))
+any_of (c ∷ d ∷ ds) = q.QueryAny (conds_of (c ∷ d ∷ ds))
 
 -- Cond = All {"or" All}    All = Atom {"and" Atom}
 -- Atom = "not" "(" Cond ")" | "true" "(" ")" | "exists" "(" Path ")" | "(" Cond ")" | Path Rel Operand | Literal Rel Path
@@ -210,12 +210,12 @@ abbrev mutual
   ands_tree (and_more a bs) = atom_tree a ∷ ands_tree bs
 
   pub atom_tree : Atom → QueryCondTree
-  atom_tree (negated c) = q.Not (derived_cond c)
-  atom_tree always = q.Always
-  atom_tree (existing p) = q.Exists (path_tree p)
+  atom_tree (negated c) = q.QueryNot (derived_cond c)
+  atom_tree always = q.QueryAlways
+  atom_tree (existing p) = q.QueryExists (path_tree p)
   atom_tree (grouped c) = derived_cond c
-  atom_tree (compared p r o) = q.Compare (sides.Path (path_tree p)) r (operand_tree o)
-  atom_tree (literal_first l r p) = q.Compare (literal_tree l) r (sides.Path (path_tree p))
+  atom_tree (compared p r o) = q.QueryCompare (sides.Path (path_tree p)) r (operand_tree o)
+  atom_tree (literal_first l r p) = q.QueryCompare (literal_tree l) r (sides.Path (path_tree p))
 
 -- With n constructs open before it, at most `limit` are open at any token of it.
 abbrev mutual
@@ -242,22 +242,22 @@ abbrev mutual
   AtomFits limit n (literal_first l r p) = Unit {0}
 
 -- Clause = Var "in" [Var] Step {Step}
-pub data Clause : Type 0 where
-  clause : (at : ℕ) (name : List ℕ) → Source → Clause
+pub data ClauseSyntax : Type 0 where
+  clause : (at : ℕ) (name : List ℕ) → Source → ClauseSyntax
 
-abbrev pub clause_tokens : Clause → List Token
+abbrev pub clause_tokens : ClauseSyntax → List Token
 clause_tokens (clause at x s) = TVar at x ∷ TName in_ ∷ source_tokens s
 
 abbrev pub a_clause : List ℕ → PathExpr → LoopClause
 a_clause x p = record { var = x; path = p }
 
-abbrev pub clause_tree : Clause → LoopClause
+abbrev pub clause_tree : ClauseSyntax → LoopClause
 clause_tree (clause at x s) = a_clause x (source_tree s)
 
 -- {"," Clause}
 pub data Clauses : Type 0 where
   no_clause : Clauses
-  clause_more : Clause → Clauses → Clauses
+  clause_more : ClauseSyntax → Clauses → Clauses
 
 abbrev pub clauses_tokens : Clauses → List Token
 clauses_tokens no_clause = []
@@ -291,7 +291,7 @@ WhereFits limit n (where_cond c) = CondFits limit n c
 -- Elem = "<" Name Tag   Tag = "/>" | ">" Content      Content = "</" Name ">" | Elem Content | "{" Expr {"," Expr} "}" Content
 mutual
   pub data Expr : Type 0 where
-    for_expr : Clause → Clauses → Where → Expr → Expr
+    for_expr : ClauseSyntax → Clauses → Where → Expr → Expr
     if_expr : Cond → Expr → Expr → Expr
     elem_expr : (name : List ℕ) → Tag → Expr
     paren_expr : Inner → Expr
@@ -351,11 +351,11 @@ seq_of (e ∷ f ∷ fs) = q.Seq (exprs_of (e ∷ f ∷ fs))
 
 abbrev mutual
   pub derived_expr : Expr → ExprTree
-  derived_expr (for_expr c cs w e) = q.For (clause_tree c ∷ clauses_tree cs) (where_tree w) (derived_expr e)
-  derived_expr (if_expr c a b) = q.If (derived_cond c) (derived_expr a) (derived_expr b)
+  derived_expr (for_expr c cs w e) = q.QueryFor (clause_tree c ∷ clauses_tree cs) (where_tree w) (derived_expr e)
+  derived_expr (if_expr c a b) = q.QueryIf (derived_cond c) (derived_expr a) (derived_expr b)
   derived_expr (elem_expr x t) = q.Elem x (exprs_of (tag_tree t))
   derived_expr (paren_expr i) = inner_tree i
-  derived_expr (path_expr p) = q.Path (path_tree p)
+  derived_expr (path_expr p) = q.QueryPath (path_tree p)
 
   pub inner_tree : Inner → ExprTree
   inner_tree closed = q.Empty

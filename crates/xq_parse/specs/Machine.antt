@@ -133,7 +133,7 @@ abbrev pub loop_body_state : ℕ → Scope → Marks → (Marks → ExprTree →
 loop_body_state n sc m k = word return_ (expr n sc m k)
 
 unfoldable pub for_state : ℕ → Scope → Marks → (Marks → ExprTree → State) → State
-for_state n sc m k = loop_head_state n sc m (λ sc m cs w. loop_body_state n sc m (λ m e. k m (q.For cs w e)))
+for_state n sc m k = loop_head_state n sc m (λ sc m cs w. loop_body_state n sc m (λ m e. k m (q.QueryFor cs w e)))
 
 -- "(" Cond ")" "then"
 unfoldable pub head_state : ℕ → Scope → Marks → (Marks → QueryCondTree → State) → State
@@ -144,7 +144,7 @@ abbrev pub else_state : ℕ → Scope → Marks → (Marks → ExprTree → Stat
 else_state n sc m k = word else_ (expr n sc m k)
 
 unfoldable pub if_state : ℕ → Scope → Marks → (Marks → ExprTree → State) → State
-if_state n sc m k = head_state n sc m (λ m c. expr n sc m (λ m a. else_state n sc m (λ m b. k m (q.If c a b))))
+if_state n sc m k = head_state n sc m (λ m c. expr n sc m (λ m a. else_state n sc m (λ m b. k m (q.QueryIf c a b))))
 
 unfoldable pub elem_state : ℕ → Scope → Marks → (Marks → ExprTree → State) → State
 elem_state n sc m k = name (λ x. tag n sc m x (λ m es. k m (q.Elem x (exprs_of es))))
@@ -153,13 +153,13 @@ unfoldable pub group_state : ℕ → Scope → Marks → (Marks → QueryCondTre
 group_state n sc m k = cond_state n sc m (λ m c. sign signs.ParenClose (k m c))
 
 unfoldable pub not_state : ℕ → Scope → Marks → (Marks → QueryCondTree → State) → State
-not_state n sc m k = sign signs.ParenOpen (group_state n sc m (λ m c. k m (q.Not c)))
+not_state n sc m k = sign signs.ParenOpen (group_state n sc m (λ m c. k m (q.QueryNot c)))
 
 unfoldable pub exists_state : Scope → Marks → (Marks → QueryCondTree → State) → State
-exists_state sc m k = sign signs.ParenOpen (path (λ r. sign signs.ParenClose (k (seen sc m r) (q.Exists r.path))))
+exists_state sc m k = sign signs.ParenOpen (path (λ r. sign signs.ParenClose (k (seen sc m r) (q.QueryExists r.path))))
 
 abbrev pub true_state : Marks → (Marks → QueryCondTree → State) → State
-true_state m k = sign signs.ParenOpen (sign signs.ParenClose (k m q.Always))
+true_state m k = sign signs.ParenOpen (sign signs.ParenClose (k m q.QueryAlways))
 
 -- ---- one token
 
@@ -263,10 +263,10 @@ at_operand sc m k (TNum u) = Ok (k m (sides.Num u))
 at_operand sc m k t = at_path (side_seen sc m k) t
 
 abbrev pub compare_state : Scope → Marks → (Marks → QueryCondTree → State) → Route → State
-compare_state sc m k r = rel (λ c. operand sc (seen sc m r) (λ m o. k m (q.Compare (sides.Path r.path) c o)))
+compare_state sc m k r = rel (λ c. operand sc (seen sc m r) (λ m o. k m (q.QueryCompare (sides.Path r.path) c o)))
 
 unfoldable pub literal_state : QOperand → Scope → Marks → (Marks → QueryCondTree → State) → State
-literal_state l sc m k = rel (λ c. path (λ r. k (seen sc m r) (q.Compare l c (sides.Path r.path))))
+literal_state l sc m k = rel (λ c. path (λ r. k (seen sc m r) (q.QueryCompare l c (sides.Path r.path))))
 
 abbrev pub at_atom : ℕ → ℕ → Scope → Marks → (Marks → QueryCondTree → State) → Token → Result State Why
 at_atom limit n sc m k (TName x) =
@@ -289,7 +289,7 @@ at_comma s over (TSign signs.Comma) = Ok s
 at_comma s over t = over
 
 abbrev pub path_seen : Scope → Marks → (Marks → ExprTree → State) → Route → State
-path_seen sc m k r = k (seen_in_order sc m r) (q.Path r.path)
+path_seen sc m k r = k (seen_in_order sc m r) (q.QueryPath r.path)
 
 abbrev pub at_expr : ℕ → ℕ → Scope → Marks → (Marks → ExprTree → State) → Token → Result State Why
 at_expr limit n sc m k (TName x) =

@@ -2,7 +2,7 @@
 use Rattle.std.specs.Prelude.{ℕ, cond, List, [], ◌∷◌, ◌++◌, bytes_eq}
 use Rattle.gcx_model.specs.Paths.{any}
 use Rattle.gcx_model.specs.Variables.{is_child}
-use Rattle.xq_parse.specs.Grammar.{Step, plain, child, descendant, double, step_tree, Steps, no_step, more_steps, Path, from_var, from_root, Source, in_var, in_root, Operand, path_operand, literal_operand, Cond, cond_of, Ors, no_or, or_more, All, all, Ands, no_and, and_more, Atom, negated, always, existing, grouped, compared, literal_first, Clause, clause, Clauses, no_clause, clause_more, Where, no_where, where_cond, Expr, for_expr, if_expr, elem_expr, paren_expr, path_expr, Inner, closed, listed, Rest, no_rest, rest_more, Tag, short, long, Content, ended, nested, braced, Derivation}
+use Rattle.xq_parse.specs.Grammar.{StepSyntax, plain, child, descendant, double, step_tree, StepsSyntax, no_step, more_steps, Path, from_var, from_root, Source, in_var, in_root, Operand, path_operand, literal_operand, Cond, cond_of, Ors, no_or, or_more, All, all, Ands, no_and, and_more, Atom, negated, always, existing, grouped, compared, literal_first, ClauseSyntax, clause, Clauses, no_clause, clause_more, Where, no_where, where_cond, Expr, for_expr, if_expr, elem_expr, paren_expr, path_expr, Inner, closed, listed, Rest, no_rest, rest_more, Tag, short, long, Content, ended, nested, braced, Derivation}
 
 -- The names that are bound, the innermost first.
 abbrev pub Scope : Type 0
@@ -49,11 +49,11 @@ abbrev mutual
   atom_unknown scope (literal_first l r p) = path_unknown scope p
 
 -- A clause's variable isn't in scope in its own path.
-abbrev pub clause_unknown : Scope → Clause → List ℕ
+abbrev pub clause_unknown : Scope → ClauseSyntax → List ℕ
 clause_unknown scope (clause at x s) = source_unknown scope s
 
 -- the scope behind a clause
-abbrev pub clause_scope : Scope → Clause → Scope
+abbrev pub clause_scope : Scope → ClauseSyntax → Scope
 clause_scope scope (clause at x s) = x ∷ scope
 
 abbrev pub clauses_unknown : Scope → Clauses → List ℕ
@@ -65,7 +65,7 @@ clauses_scope scope no_clause = scope
 clauses_scope scope (clause_more c cs) = clauses_scope (clause_scope scope c) cs
 
 -- the scope of a loop's `where` and `return`
-abbrev pub loop_scope : Scope → Clause → Clauses → Scope
+abbrev pub loop_scope : Scope → ClauseSyntax → Clauses → Scope
 loop_scope scope c cs = clauses_scope (clause_scope scope c) cs
 
 abbrev pub where_unknown : Scope → Where → List ℕ
@@ -103,22 +103,22 @@ unknown_of d = expr_unknown [] d.first ++ rest_unknown [] d.others
 
 -- ---- descendant steps that aren't the last of their path, in their order: in the paths of clauses and of expressions, not in those of conditions
 
-abbrev pub step_place : Step → ℕ
+abbrev pub step_place : StepSyntax → ℕ
 step_place (plain at t) = at
 step_place (child at t) = at
 step_place (descendant at t) = at
 step_place (double at t) = at
 
 -- the step's place, if it is a descendant step
-abbrev pub descent : Step → List ℕ
+abbrev pub descent : StepSyntax → List ℕ
 descent s = cond (is_child (step_tree s).axis) [] (step_place s ∷ [])
 
 -- these steps stand behind the step s
-abbrev pub late_behind : Step → Steps → List ℕ
+abbrev pub late_behind : StepSyntax → StepsSyntax → List ℕ
 late_behind s no_step = []
 late_behind s (more_steps u us) = descent s ++ late_behind u us
 
-abbrev pub steps_late : Steps → List ℕ
+abbrev pub steps_late : StepsSyntax → List ℕ
 steps_late no_step = []
 steps_late (more_steps s ss) = late_behind s ss
 
@@ -130,7 +130,7 @@ abbrev pub source_late : Source → List ℕ
 source_late (in_var at x s ss) = late_behind s ss
 source_late (in_root s ss) = late_behind s ss
 
-abbrev pub clause_late : Clause → List ℕ
+abbrev pub clause_late : ClauseSyntax → List ℕ
 clause_late (clause at x s) = source_late s
 
 abbrev pub clauses_late : Clauses → List ℕ

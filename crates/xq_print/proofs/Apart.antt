@@ -5,9 +5,9 @@ use Rattle.std.specs.List.{list_all}
 use Rattle.std.specs.Str.{encode_utf8_all}
 use Rattle.std.proofs.lemmas.Bool.{and_parts, and_left, or_cases, or_from, leb-true, false≢true, ne_eqb}
 use Rattle.std.proofs.lemmas.Str.{IsUtf8-append, encodes-append}
-use Rattle.gcx_model.specs.Values.{is_digit, is_numeral}
+use Rattle.gcx_model.specs.Values.{is_digit_byte, is_numeral}
 use Rattle.xq_lex.specs.declared.sign.Sign.{Sign}
-use Rattle.xq_lex.specs.declared.sign.Sign.TheVariants.{ParenOpen, ParenClose, BraceOpen, BraceClose, Comma, Slash, SlashSlash, Axis, Star, Eq, Ne, Lt, Le, Gt, Ge, EndTag, EmptyEnd}
+use Rattle.xq_lex.specs.declared.sign.Sign.TheVariants as signs
 use Rattle.xq_lex.specs.declared.token.TokKind.{TokKind}
 use Rattle.xq_lex.specs.declared.token.Tok.{Tok}
 use Rattle.xq_lex.specs.Sign.{sign_chars, begins, opens_comment}
@@ -57,23 +57,23 @@ high_clear c cs h = record {
     other d k = ne_eqb c d (λ e. omega arith)
 
 sign_clear : (s : Sign) (rest : List ℕ) → begins_white (sign_chars s ++ rest) ≡ false
-sign_clear ParenOpen rest = refl
-sign_clear ParenClose rest = refl
-sign_clear BraceOpen rest = refl
-sign_clear BraceClose rest = refl
-sign_clear Comma rest = refl
-sign_clear Slash rest = refl
-sign_clear SlashSlash rest = refl
-sign_clear Axis rest = refl
-sign_clear Star rest = refl
-sign_clear Eq rest = refl
-sign_clear Ne rest = refl
-sign_clear Lt rest = refl
-sign_clear Le rest = refl
-sign_clear Gt rest = refl
-sign_clear Ge rest = refl
-sign_clear EndTag rest = refl
-sign_clear EmptyEnd rest = refl
+sign_clear signs.ParenOpen rest = refl
+sign_clear signs.ParenClose rest = refl
+sign_clear signs.BraceOpen rest = refl
+sign_clear signs.BraceClose rest = refl
+sign_clear signs.Comma rest = refl
+sign_clear signs.Slash rest = refl
+sign_clear signs.SlashSlash rest = refl
+sign_clear signs.Axis rest = refl
+sign_clear signs.Star rest = refl
+sign_clear signs.Eq rest = refl
+sign_clear signs.Ne rest = refl
+sign_clear signs.Lt rest = refl
+sign_clear signs.Le rest = refl
+sign_clear signs.Gt rest = refl
+sign_clear signs.Ge rest = refl
+sign_clear signs.EndTag rest = refl
+sign_clear signs.EmptyEnd rest = refl
 
 quote_clear : (q : ℕ) (cs : List ℕ) → is_quote q ≡ true → IsClear (q ∷ cs)
 quote_clear q cs e = by (or_cases (q == 34) (q == 39) e)
@@ -92,8 +92,8 @@ form_clear (variable cs) rest good = record { no_white = refl; no_comment = refl
 form_clear (number true w f) rest good = record { no_white = refl; no_comment = refl }
 form_clear (number false [] f) rest good = absurd (false≢true good)
 form_clear (number false (d ∷ ds) f) rest good =
-    let whole : is_numeral (d ∷ ds) ≡ true = (and_parts (is_numeral (d ∷ ds)) (list_all is_digit f) good).0 in
-    let digit : is_digit d ≡ true = (and_parts (is_digit d) (list_all is_digit ds) (and_parts (nat_lt 0 (length (d ∷ ds))) (list_all is_digit (d ∷ ds)) whole).1).0 in
+    let whole : is_numeral (d ∷ ds) ≡ true = (and_parts (is_numeral (d ∷ ds)) (list_all is_digit_byte f) good).0 in
+    let digit : is_digit_byte d ≡ true = (and_parts (is_digit_byte d) (list_all is_digit_byte ds) (and_parts (nat_lt 0 (length (d ∷ ds))) (list_all is_digit_byte (d ∷ ds)) whole).1).0 in
     let low : 48 ≤ d = leb-true 48 d (and_parts (nat_le 48 d) (nat_le d 57) digit).0 in
     high_clear d _ (omega arith)
 form_clear (string q ps) rest good = quote_clear q _ good.0

@@ -137,7 +137,7 @@ elem_at limit n ps x e es m a r = record {
     regrouped a r b t = simp append_assoc
 
 for_at : (limit n : ℕ) (ps : List ℕ) (c : Clause) (cs : List Clause) (f : Option QueryCondTree) (e : ExprTree) → MayOpen limit n → AreClauses (c ∷ cs) → FilterShape limit (n + 1) f →
-    ((qs : List ℕ) → ExprAt limit (n + 1) qs e) → ExprAt limit n ps (query.For (c ∷ cs) f e)
+    ((qs : List ℕ) → ExprAt limit (n + 1) qs e) → ExprAt limit n ps (query.QueryFor (c ∷ cs) f e)
 for_at limit n ps c cs f e m h k body_at =
     let from : List ℕ = later ps in
     let loop : List Piece = clause_pieces c ++ later_clauses cs in
@@ -148,7 +148,7 @@ for_at limit n ps c cs f e m h k body_at =
     record {
       derivation = g.for_expr one.derivation more.derivation filter.derivation body.derivation;
       fits = (m, filter.fits, body.fits);
-      tree_is = (λ i. query.For (one.tree_is i ∷ more.tree_is i) (filter.tree_is i) (body.tree_is i));
+      tree_is = (λ i. query.QueryFor (one.tree_is i ∷ more.tree_is i) (filter.tree_is i) (body.tree_is i));
       spelled =
           ap (λ (ts : List Token). TName for_ ∷ ts)
           (sym (append_assoc (clause_tokens one.derivation) (clauses_tokens more.derivation) (where_tokens filter.derivation ++ (TName return_ ∷ expr_tokens body.derivation)))
@@ -157,7 +157,7 @@ for_at limit n ps c cs f e m h k body_at =
     }
 
 if_at : (limit n : ℕ) (ps : List ℕ) (c : QueryCondTree) (a b : ExprTree) → MayOpen limit n → CondShape limit (n + 1) c → ((qs : List ℕ) → ExprAt limit (n + 1) qs a) → ((qs : List ℕ) → ExprAt limit (n + 1) qs b) →
-    ExprAt limit n ps (query.If c a b)
+    ExprAt limit n ps (query.QueryIf c a b)
 if_at limit n ps c a b m h at_a at_b =
     let from : List ℕ = later (later ps) in
     let cond : CondAt limit (n + 1) from c = cond_at limit c (n + 1) from h in
@@ -167,7 +167,7 @@ if_at limit n ps c a b m h at_a at_b =
     record {
       derivation = g.if_expr cond.derivation this.derivation other.derivation;
       fits = (m, cond.fits, this.fits, other.fits);
-      tree_is = (λ i. query.If (cond.tree_is i) (this.tree_is i) (other.tree_is i));
+      tree_is = (λ i. query.QueryIf (cond.tree_is i) (this.tree_is i) (other.tree_is i));
       spelled =
           ap (λ (ts : List Token). TName if_ ∷ TSign signs.ParenOpen ∷ ts)
           (in_place from (cond_pieces c) (mark signs.ParenClose ∷ blank ∷ word then_ ∷ blank ∷ (expr_pieces a ++ (blank ∷ word else_ ∷ blank ∷ expr_pieces b))) cond.spelled
@@ -183,8 +183,8 @@ rest_more_at limit n ps e es a r = record {
   spelled = ap (λ (ts : List Token). TSign signs.Comma ∷ ts) (in_place (later ps) (expr_pieces e) (later_parts es) a.spelled r.spelled);
 }
 
-path_expr_at : (limit n : ℕ) (ps : List ℕ) (p : PathExpr) → PathAt ps p → ExprAt limit n ps (query.Path p)
-path_expr_at limit n ps p path = record { derivation = g.path_expr path.derivation; fits = tt; tree_is = ap query.Path path.tree_is; spelled = path.spelled }
+path_expr_at : (limit n : ℕ) (ps : List ℕ) (p : PathExpr) → PathAt ps p → ExprAt limit n ps (query.QueryPath p)
+path_expr_at limit n ps p path = record { derivation = g.path_expr path.derivation; fits = tt; tree_is = ap query.QueryPath path.tree_is; spelled = path.spelled }
 
 mutual
   expr_at : (limit : ℕ) (e : ExprTree) (n : ℕ) → ExprShape limit n e → (ps : List ℕ) → ExprAt limit n ps e
@@ -195,10 +195,10 @@ mutual
   expr_at limit (query.Elem x query.no_expr) n h ps = record { derivation = g.elem_expr x (g.long g.ended); fits = (h.0, tt); tree_is = refl; spelled = refl }
   expr_at limit (query.Elem x (query.more_exprs e es)) n h ps =
       elem_at limit n ps x e es h.0 (expr_at limit e (n + 1) h.1.0 (within ps)) (rest_at limit es (n + 1) h.1.1 (behind (expr_pieces e) (within ps)))
-  expr_at limit (query.Path p) n h ps = path_expr_at limit n ps p (path_at p h ps)
-  expr_at limit (query.For [] f e) n h ps = absurd h.1
-  expr_at limit (query.For (c ∷ cs) f e) n h ps = for_at limit n ps c cs f e h.0 h.1 h.2 (expr_at limit e (n + 1) h.3)
-  expr_at limit (query.If c a b) n h ps = if_at limit n ps c a b h.0 h.1 (expr_at limit a (n + 1) h.2) (expr_at limit b (n + 1) h.3)
+  expr_at limit (query.QueryPath p) n h ps = path_expr_at limit n ps p (path_at p h ps)
+  expr_at limit (query.QueryFor [] f e) n h ps = absurd h.1
+  expr_at limit (query.QueryFor (c ∷ cs) f e) n h ps = for_at limit n ps c cs f e h.0 h.1 h.2 (expr_at limit e (n + 1) h.3)
+  expr_at limit (query.QueryIf c a b) n h ps = if_at limit n ps c a b h.0 h.1 (expr_at limit a (n + 1) h.2) (expr_at limit b (n + 1) h.3)
 
   rest_at : (limit : ℕ) (es : ExprTrees) (n : ℕ) → PartsShape limit n es → (ps : List ℕ) → RestAt limit n ps es
   rest_at limit query.no_expr n h ps = record { derivation = g.no_rest; fits = tt; tree_is = refl; spelled = refl }

@@ -5,7 +5,7 @@ use Rattle.std.specs.Fmt.{decimal}
 use Rattle.std.specs.Str.{chars, encode_utf8_all}
 use Rattle.gcx_base.specs.Characters.{is_part_char}
 use Rattle.xq_lex.specs.declared.sign.Sign.{Sign}
-use Rattle.xq_lex.specs.declared.sign.Sign.TheVariants.{ParenOpen, ParenClose, BraceOpen, BraceClose, Comma, Slash, SlashSlash, Axis, Star, Eq, Ne, Lt, Le, Gt, Ge, EndTag, EmptyEnd}
+use Rattle.xq_lex.specs.declared.sign.Sign.TheVariants as signs
 use Rattle.xq_lex.specs.declared.token.TokKind.{TokKind}
 use Rattle.xq_lex.specs.declared.token.TokKind.TheVariants as kinds
 use Rattle.xq_lex.specs.Sign.{begins}
@@ -53,23 +53,23 @@ ends_word (c ∷ cs) = not (is_part_char c)
 
 -- no longer sign, and no comment, comes of what follows
 abbrev pub ends_sign : Sign → List ℕ → Bool
-ends_sign ParenOpen rest = not (begins 58 rest)
-ends_sign ParenClose rest = true
-ends_sign BraceOpen rest = true
-ends_sign BraceClose rest = true
-ends_sign Comma rest = true
-ends_sign Slash rest = not (begins 47 rest || begins 62 rest)
-ends_sign SlashSlash rest = true
-ends_sign Axis rest = true
-ends_sign Star rest = true
-ends_sign Eq rest = true
-ends_sign Ne rest = true
-ends_sign Lt rest = not (begins 61 rest || begins 47 rest)
-ends_sign Le rest = true
-ends_sign Gt rest = not (begins 61 rest)
-ends_sign Ge rest = true
-ends_sign EndTag rest = true
-ends_sign EmptyEnd rest = true
+ends_sign signs.ParenOpen rest = not (begins 58 rest)
+ends_sign signs.ParenClose rest = true
+ends_sign signs.BraceOpen rest = true
+ends_sign signs.BraceClose rest = true
+ends_sign signs.Comma rest = true
+ends_sign signs.Slash rest = not (begins 47 rest || begins 62 rest)
+ends_sign signs.SlashSlash rest = true
+ends_sign signs.Axis rest = true
+ends_sign signs.Star rest = true
+ends_sign signs.Eq rest = true
+ends_sign signs.Ne rest = true
+ends_sign signs.Lt rest = not (begins 61 rest || begins 47 rest)
+ends_sign signs.Le rest = true
+ends_sign signs.Gt rest = not (begins 61 rest)
+ends_sign signs.Ge rest = true
+ends_sign signs.EndTag rest = true
+ends_sign signs.EmptyEnd rest = true
 
 abbrev pub may_follow : TokKind → List ℕ → Bool
 may_follow (kinds.Name n) rest = ends_word rest

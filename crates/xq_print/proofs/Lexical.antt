@@ -49,16 +49,16 @@ LexicalOperand (operand.Num units) = IsKind (kinds.Number units)
 
 abbrev mutual
   pub LexicalCond : QueryCondTree → Type 0
-  LexicalCond query.Always = Unit {0}
-  LexicalCond (query.Exists path) = LexicalPath path
-  LexicalCond (query.Compare left rel right) = LexicalOperand left × LexicalOperand right
-  LexicalCond (query.Not inner) = LexicalCond inner
-  LexicalCond (query.All members) = LexicalConds members
-  LexicalCond (query.Any members) = LexicalConds members
+  LexicalCond query.QueryAlways = Unit {0}
+  LexicalCond (query.QueryExists path) = LexicalPath path
+  LexicalCond (query.QueryCompare left rel right) = LexicalOperand left × LexicalOperand right
+  LexicalCond (query.QueryNot inner) = LexicalCond inner
+  LexicalCond (query.QueryAll members) = LexicalConds members
+  LexicalCond (query.QueryAny members) = LexicalConds members
 
   pub LexicalConds : QueryCondTrees → Type 0
-  LexicalConds query.no_cond = Unit {0}
-  LexicalConds (query.more_conds c cs) = LexicalCond c × LexicalConds cs
+  LexicalConds query.no_query_cond = Unit {0}
+  LexicalConds (query.more_query_conds c cs) = LexicalCond c × LexicalConds cs
 
 -- ---- Expressions
 
@@ -78,9 +78,9 @@ abbrev mutual
   LexicalExpr query.Empty = Unit {0}
   LexicalExpr (query.Seq parts) = LexicalExprs parts
   LexicalExpr (query.Elem name body) = IsKind (kinds.Name name) × LexicalExprs body
-  LexicalExpr (query.Path path) = LexicalPath path
-  LexicalExpr (query.For clauses filter body) = LexicalClauses clauses × LexicalFilter filter × LexicalExpr body
-  LexicalExpr (query.If c this other) = LexicalCond c × LexicalExpr this × LexicalExpr other
+  LexicalExpr (query.QueryPath path) = LexicalPath path
+  LexicalExpr (query.QueryFor clauses filter body) = LexicalClauses clauses × LexicalFilter filter × LexicalExpr body
+  LexicalExpr (query.QueryIf c this other) = LexicalCond c × LexicalExpr this × LexicalExpr other
 
   pub LexicalExprs : ExprTrees → Type 0
   LexicalExprs query.no_expr = Unit {0}

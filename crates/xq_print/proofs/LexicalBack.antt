@@ -55,19 +55,19 @@ split (t ∷ a) b h = let more : Leaves a × Leaves b = split a b h.1 in ((h.0, 
 
 -- ---- Paths
 
-test_leaves : (t : g.Test) → Leaves (test_tokens t) → LexicalTest (test_tree t)
+test_leaves : (t : g.TestSyntax) → Leaves (test_tokens t) → LexicalTest (test_tree t)
 test_leaves (g.name_test x) h = h.0
 test_leaves g.star_test h = tt
 test_leaves g.text_test h = tt
 test_leaves g.node_test h = tt
 
-step_leaves : (s : g.Step) → Leaves (step_tokens s) → LexicalTest (step_tree s).test
+step_leaves : (s : g.StepSyntax) → Leaves (step_tokens s) → LexicalTest (step_tree s).test
 step_leaves (g.plain at t) h = test_leaves t h.1
 step_leaves (g.child at t) h = test_leaves t h.1.1.1
 step_leaves (g.descendant at t) h = test_leaves t h.1.1.1
 step_leaves (g.double at t) h = test_leaves t h.1
 
-steps_leaves : (ss : g.Steps) → Leaves (steps_tokens ss) → LexicalSteps (steps_tree ss)
+steps_leaves : (ss : g.StepsSyntax) → Leaves (steps_tokens ss) → LexicalSteps (steps_tree ss)
 steps_leaves g.no_step h = tt
 steps_leaves (g.more_steps s ss) h = let parts : Leaves (step_tokens s) × Leaves (steps_tokens ss) = split (step_tokens s) (steps_tokens ss) h in (step_leaves s parts.0, steps_leaves ss parts.1)
 
@@ -128,7 +128,7 @@ mutual
 
 -- ---- Expressions
 
-clause_leaves : (c : g.Clause) → Leaves (clause_tokens c) → LexicalClause (clause_tree c)
+clause_leaves : (c : g.ClauseSyntax) → Leaves (clause_tokens c) → LexicalClause (clause_tree c)
 clause_leaves (g.clause at x s) h = (h.0, source_leaves s h.1.1)
 
 clauses_leaves : (cs : g.Clauses) → Leaves (clauses_tokens cs) → LexicalClauses (clauses_tree cs)

@@ -12,7 +12,7 @@ use Rattle.std.proofs.lemmas.List.{append_cancel_left}
 use Rattle.std.proofs.lemmas.List.Folds.{list_all-append}
 use Rattle.std.proofs.lemmas.Fmt.{decimal_by_steps}
 use Rattle.gcx_base.specs.Characters.{is_part_char}
-use Rattle.gcx_model.specs.Values.{digits_from, is_digit, is_numeral}
+use Rattle.gcx_model.specs.Values.{digits_from, is_digit_byte, is_numeral}
 use Rattle.xq_lex.specs.Numbers.{minus_chars, fraction_chars, is_number, digits_at, fraction_at}
 use Rattle.xq_lex.specs.Form.{Form, number, form_chars, BeginsWith}
 use Rattle.xq_lex.specs.Found.{number_from, unsigned_at}
@@ -24,19 +24,19 @@ use Rattle.xq_print.proofs.Digits.{first_digit, no_digits, top_digit}
 
 -- ---- The longest number
 
-digit_part : (c : ℕ) → is_digit c ≡ true → is_part_char c ≡ true
+digit_part : (c : ℕ) → is_digit_byte c ≡ true → is_part_char c ≡ true
 digit_part c h = grind (arith, nat_tests)
 
-no_digit : (c : ℕ) → is_part_char c ≡ false → is_digit c ≡ false
-no_digit c h = by (is_digit c) refl
+no_digit : (c : ℕ) → is_part_char c ≡ false → is_digit_byte c ≡ false
+no_digit c h = by (is_digit_byte c) refl
   where
-    by : (b : Bool) → is_digit c ≡ b → b ≡ false
+    by : (b : Bool) → is_digit_byte c ≡ b → b ≡ false
     by true e = sym (digit_part c e) ∙ h
     by false e = refl
 
 no_digits_at : (rest : List ℕ) → ends_word rest ≡ true → digits_at rest ≡ []
 no_digits_at [] e = refl
-no_digits_at (c ∷ cs) e = cond-false (is_digit c) (c ∷ digits_at cs) [] (no_digit c (not-true (is_part_char c) e))
+no_digits_at (c ∷ cs) e = cond-false (is_digit_byte c) (c ∷ digits_at cs) [] (no_digit c (not-true (is_part_char c) e))
 
 no_point_at : (rest : List ℕ) → ends_word rest ≡ true → fraction_at rest ≡ []
 no_point_at [] e = refl
@@ -44,7 +44,7 @@ no_point_at (c ∷ cs) e =
     let no : is_part_char c ≡ false = not-true (is_part_char c) e in
     cond-false (c == 46) (digits_at cs) [] (ne_eqb c 46 (λ h. false≢true (sym no ∙ ap is_part_char h)))
 
-fraction_found : (f rest : List ℕ) → list_all is_digit f ≡ true → ends_word rest ≡ true → fraction_at (fraction_chars f ++ rest) ≡ f
+fraction_found : (f rest : List ℕ) → list_all is_digit_byte f ≡ true → ends_word rest ≡ true → fraction_at (fraction_chars f ++ rest) ≡ f
 fraction_found [] rest good ends = no_point_at rest ends
 fraction_found (d ∷ ds) rest good ends = digits_at-append (d ∷ ds) rest good ∙ (ap (λ (x : List ℕ). (d ∷ ds) ++ x) (no_digits_at rest ends) ∙ append-nil (d ∷ ds))
 
@@ -55,8 +55,8 @@ whole_ends (d ∷ ds) rest ends = refl
 found : (m : Bool) (w f rest : List ℕ) → is_number w f ≡ true → ends_word rest ≡ true → unsigned_at m (w ++ (fraction_chars f ++ rest)) ≡ Some (number m w f)
 found m [] f rest good ends = absurd (false≢true good)
 found m (d ∷ ds) f rest good ends =
-    let both : (is_numeral (d ∷ ds) ≡ true) × (list_all is_digit f ≡ true) = and_parts (is_numeral (d ∷ ds)) (list_all is_digit f) good in
-    let digits : list_all is_digit (d ∷ ds) ≡ true = (and_parts (nat_lt 0 (length (d ∷ ds))) (list_all is_digit (d ∷ ds)) both.0).1 in
+    let both : (is_numeral (d ∷ ds) ≡ true) × (list_all is_digit_byte f ≡ true) = and_parts (is_numeral (d ∷ ds)) (list_all is_digit_byte f) good in
+    let digits : list_all is_digit_byte (d ∷ ds) ≡ true = (and_parts (nat_lt 0 (length (d ∷ ds))) (list_all is_digit_byte (d ∷ ds)) both.0).1 in
     let behind : List ℕ = fraction_chars f ++ rest in
     let whole : digits_at ((d ∷ ds) ++ behind) ≡ d ∷ ds = digits_at-append (d ∷ ds) behind digits ∙ (ap (λ (x : List ℕ). (d ∷ ds) ++ x) (whole_ends f rest ends) ∙ append-nil (d ∷ ds)) in
     let left : drop (length (digits_at ((d ∷ ds) ++ behind))) ((d ∷ ds) ++ behind) ≡ behind = ap (λ (x : List ℕ). drop (length x) ((d ∷ ds) ++ behind)) whole ∙ drop-append_seam (d ∷ ds) behind in
@@ -81,23 +81,23 @@ number_whole m w f rest good ends =
 
 pub record AreDigitsOf (n : ℕ) (ds : List ℕ) : Type 0 where
   pub value : digits_from 0 ds ≡ n
-  pub digits : list_all is_digit ds ≡ true
+  pub digits : list_all is_digit_byte ds ≡ true
   pub some : 0 < length ds
 
 digits_on : (n : ℕ) (ds : List ℕ) (d : ℕ) → digits_from n (ds ++ d ∷ []) ≡ digits_from n ds * 10 + (d - 48)
 digits_on n [] d = refl
 digits_on n (e ∷ ds) d = digits_on (n * 10 + (e - 48)) ds d
 
-digit_is : (d : ℕ) → d < 10 → is_digit (48 + d) ≡ true
+digit_is : (d : ℕ) → d < 10 → is_digit_byte (48 + d) ≡ true
 digit_is d h = grind (arith, nat_tests)
 
 one_digit : (n : ℕ) → n < 10 → AreDigitsOf n ((48 + n) ∷ [])
-one_digit n h = record { value = omega arith; digits = and_from (is_digit (48 + n)) true (digit_is n h) refl; some = omega arith }
+one_digit n h = record { value = omega arith; digits = and_from (is_digit_byte (48 + n)) true (digit_is n h) refl; some = omega arith }
 
 more_digits : (n : ℕ) (ds : List ℕ) → 10 ≤ n → AreDigitsOf (n / 10) ds → AreDigitsOf n (ds ++ ((48 + n % 10) ∷ []))
 more_digits n ds h a = record {
   value = digits_on 0 ds (48 + n % 10) ∙ (ap (λ (x : ℕ). x * 10 + (48 + n % 10 - 48)) a.value ∙ last);
-  digits = list_all-append is_digit ds ((48 + n % 10) ∷ []) ∙ and_from (list_all is_digit ds) (list_all is_digit ((48 + n % 10) ∷ [])) a.digits (and_from (is_digit (48 + n % 10)) true (digit_is (n % 10) (mod-lt n (omega arith))) refl);
+  digits = list_all-append is_digit_byte ds ((48 + n % 10) ∷ []) ∙ and_from (list_all is_digit_byte ds) (list_all is_digit_byte ((48 + n % 10) ∷ [])) a.digits (and_from (is_digit_byte (48 + n % 10)) true (digit_is (n % 10) (mod-lt n (omega arith))) refl);
   some = omega (arith, length-append ds ((48 + n % 10) ∷ []));
 }
   where
@@ -111,7 +111,7 @@ decimal_digits n h = decimal_by_steps AreDigitsOf one_digit more_digits n h
 
 pub record ArePlacesOf (k n : ℕ) (ds : List ℕ) : Type 0 where
   pub value : digits_from 0 ds * 10 ^ (k - length ds) ≡ n
-  pub digits : list_all is_digit ds ≡ true
+  pub digits : list_all is_digit_byte ds ≡ true
   pub few : length ds ≤ k
 
 digits_above : (n : ℕ) (ds : List ℕ) → digits_from n ds ≡ n * 10 ^ length ds + digits_from 0 ds
@@ -136,7 +136,7 @@ first_place k q r ds small a = record {
       ∙ (ap (λ (x : ℕ). x * 10 ^ (k - length ds)) (digits_above q ds)
       ∙ (spread (q) (10 ^ length ds) (digits_from 0 ds) (10 ^ (k - length ds))
       ∙ (λ i. q * power i + a.value i)));
-  digits = and_from (is_digit (48 + q)) (list_all is_digit ds) (digit_is q small) a.digits;
+  digits = and_from (is_digit_byte (48 + q)) (list_all is_digit_byte ds) (digit_is q small) a.digits;
   few = omega (arith, a.few);
 }
   where

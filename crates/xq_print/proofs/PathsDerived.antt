@@ -32,7 +32,7 @@ Flat d = Unit {0}
 
 -- ---- Paths
 
-test_of : Test → g.Test
+test_of : Test → g.TestSyntax
 test_of (tests.Named x) = g.name_test x
 test_of tests.AnyElement = g.star_test
 test_of tests.AnyText = g.text_test

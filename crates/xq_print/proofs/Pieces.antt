@@ -92,16 +92,16 @@ enclosed_pieces false ps = ps
 
 abbrev mutual
   pub cond_pieces : QueryCondTree → List Piece
-  cond_pieces query.Always = word true_ ∷ mark signs.ParenOpen ∷ mark signs.ParenClose ∷ []
-  cond_pieces (query.Exists path) = (word exists_ ∷ mark signs.ParenOpen ∷ []) ++ (path_pieces path ++ (mark signs.ParenClose ∷ []))
-  cond_pieces (query.Compare left rel right) = operand_pieces left ++ (rel_pieces rel ++ operand_pieces right)
-  cond_pieces (query.Not inner) = (word not_ ∷ mark signs.ParenOpen ∷ []) ++ (cond_pieces inner ++ (mark signs.ParenClose ∷ []))
-  cond_pieces (query.All members) = joined_pieces (joint_pieces And) (members_pieces And members)
-  cond_pieces (query.Any members) = joined_pieces (joint_pieces Or) (members_pieces Or members)
+  cond_pieces query.QueryAlways = word true_ ∷ mark signs.ParenOpen ∷ mark signs.ParenClose ∷ []
+  cond_pieces (query.QueryExists path) = (word exists_ ∷ mark signs.ParenOpen ∷ []) ++ (path_pieces path ++ (mark signs.ParenClose ∷ []))
+  cond_pieces (query.QueryCompare left rel right) = operand_pieces left ++ (rel_pieces rel ++ operand_pieces right)
+  cond_pieces (query.QueryNot inner) = (word not_ ∷ mark signs.ParenOpen ∷ []) ++ (cond_pieces inner ++ (mark signs.ParenClose ∷ []))
+  cond_pieces (query.QueryAll members) = joined_pieces (joint_pieces And) (members_pieces And members)
+  cond_pieces (query.QueryAny members) = joined_pieces (joint_pieces Or) (members_pieces Or members)
 
   pub members_pieces : Joint → QueryCondTrees → List (List Piece)
-  members_pieces joint query.no_cond = []
-  members_pieces joint (query.more_conds c cs) = enclosed_pieces (is_enclosed joint c) (cond_pieces c) ∷ members_pieces joint cs
+  members_pieces joint query.no_query_cond = []
+  members_pieces joint (query.more_query_conds c cs) = enclosed_pieces (is_enclosed joint c) (cond_pieces c) ∷ members_pieces joint cs
 
 -- ---- Expressions
 
@@ -128,10 +128,10 @@ abbrev mutual
   expr_pieces query.Empty = mark signs.ParenOpen ∷ mark signs.ParenClose ∷ []
   expr_pieces (query.Seq parts) = in_parens (joined_pieces comma (exprs_pieces parts))
   expr_pieces (query.Elem name body) = start_tag_pieces name ++ (body_pieces (exprs_pieces body) ++ end_tag_pieces name)
-  expr_pieces (query.Path path) = path_pieces path
-  expr_pieces (query.For clauses filter body) =
+  expr_pieces (query.QueryPath path) = path_pieces path
+  expr_pieces (query.QueryFor clauses filter body) =
       (word for_ ∷ blank ∷ []) ++ (joined_pieces comma (map clause_pieces clauses) ++ (filter_pieces filter ++ ((blank ∷ word return_ ∷ blank ∷ []) ++ expr_pieces body)))
-  expr_pieces (query.If c this other) =
+  expr_pieces (query.QueryIf c this other) =
       (word if_ ∷ blank ∷ mark signs.ParenOpen ∷ []) ++ (cond_pieces c
       ++ ((mark signs.ParenClose ∷ blank ∷ word then_ ∷ blank ∷ []) ++ (expr_pieces this ++ ((blank ∷ word else_ ∷ blank ∷ []) ++ expr_pieces other))))
 

@@ -49,12 +49,12 @@ AreSides (operand.Num u) o = IsPathSide o
 -- ---- Conditions
 
 abbrev pub SomeConds : QueryCondTrees → Type 0
-SomeConds query.no_cond = ⊥
-SomeConds (query.more_conds c cs) = Unit {0}
+SomeConds query.no_query_cond = ⊥
+SomeConds (query.more_query_conds c cs) = Unit {0}
 
 abbrev pub TwoConds : QueryCondTrees → Type 0
-TwoConds query.no_cond = ⊥
-TwoConds (query.more_conds c cs) = SomeConds cs
+TwoConds query.no_query_cond = ⊥
+TwoConds (query.more_query_conds c cs) = SomeConds cs
 
 -- in parentheses or without
 abbrev pub Around : (limit n : ℕ) → Bool → (ℕ → Type 0) → Type 0
@@ -63,16 +63,16 @@ Around limit n false P = P n
 
 abbrev mutual
   pub CondShape : (limit n : ℕ) → QueryCondTree → Type 0
-  CondShape limit n query.Always = Unit {0}
-  CondShape limit n (query.Exists p) = IsPath p
-  CondShape limit n (query.Compare l r o) = AreSides l o
-  CondShape limit n (query.Not c) = MayOpen limit n × CondShape limit (n + 1) c
-  CondShape limit n (query.All cs) = TwoConds cs × MembersShape limit n And cs
-  CondShape limit n (query.Any cs) = TwoConds cs × MembersShape limit n Or cs
+  CondShape limit n query.QueryAlways = Unit {0}
+  CondShape limit n (query.QueryExists p) = IsPath p
+  CondShape limit n (query.QueryCompare l r o) = AreSides l o
+  CondShape limit n (query.QueryNot c) = MayOpen limit n × CondShape limit (n + 1) c
+  CondShape limit n (query.QueryAll cs) = TwoConds cs × MembersShape limit n And cs
+  CondShape limit n (query.QueryAny cs) = TwoConds cs × MembersShape limit n Or cs
 
   pub MembersShape : (limit n : ℕ) → Joint → QueryCondTrees → Type 0
-  MembersShape limit n joint query.no_cond = Unit {0}
-  MembersShape limit n joint (query.more_conds c cs) = Around limit n (is_enclosed joint c) (λ m. CondShape limit m c) × MembersShape limit n joint cs
+  MembersShape limit n joint query.no_query_cond = Unit {0}
+  MembersShape limit n joint (query.more_query_conds c cs) = Around limit n (is_enclosed joint c) (λ m. CondShape limit m c) × MembersShape limit n joint cs
 
 abbrev pub MemberShape : (limit n : ℕ) → Joint → QueryCondTree → Type 0
 MemberShape limit n joint c = Around limit n (is_enclosed joint c) (λ m. CondShape limit m c)
@@ -104,9 +104,9 @@ abbrev mutual
   ExprShape limit n query.Empty = MayOpen limit n
   ExprShape limit n (query.Seq parts) = MayOpen limit n × TwoExprs parts × PartsShape limit (n + 1) parts
   ExprShape limit n (query.Elem name body) = MayOpen limit n × PartsShape limit (n + 1) body
-  ExprShape limit n (query.Path p) = IsPath p
-  ExprShape limit n (query.For cs f e) = MayOpen limit n × IsLoop cs × FilterShape limit (n + 1) f × ExprShape limit (n + 1) e
-  ExprShape limit n (query.If c a b) = MayOpen limit n × CondShape limit (n + 1) c × ExprShape limit (n + 1) a × ExprShape limit (n + 1) b
+  ExprShape limit n (query.QueryPath p) = IsPath p
+  ExprShape limit n (query.QueryFor cs f e) = MayOpen limit n × IsLoop cs × FilterShape limit (n + 1) f × ExprShape limit (n + 1) e
+  ExprShape limit n (query.QueryIf c a b) = MayOpen limit n × CondShape limit (n + 1) c × ExprShape limit (n + 1) a × ExprShape limit (n + 1) b
 
   pub PartsShape : (limit n : ℕ) → ExprTrees → Type 0
   PartsShape limit n query.no_expr = Unit {0}
@@ -134,16 +134,16 @@ around_before limit n false P f h = f n h
 
 mutual
   pub cond_before : (limit n : ℕ) (c : QueryCondTree) → CondShape limit (n + 1) c → CondShape limit n c
-  cond_before limit n query.Always h = h
-  cond_before limit n (query.Exists p) h = h
-  cond_before limit n (query.Compare l r o) h = h
-  cond_before limit n (query.Not c) h = (may_before limit n h.0, cond_before limit (n + 1) c h.1)
-  cond_before limit n (query.All cs) h = (h.0, members_before limit n And cs h.1)
-  cond_before limit n (query.Any cs) h = (h.0, members_before limit n Or cs h.1)
+  cond_before limit n query.QueryAlways h = h
+  cond_before limit n (query.QueryExists p) h = h
+  cond_before limit n (query.QueryCompare l r o) h = h
+  cond_before limit n (query.QueryNot c) h = (may_before limit n h.0, cond_before limit (n + 1) c h.1)
+  cond_before limit n (query.QueryAll cs) h = (h.0, members_before limit n And cs h.1)
+  cond_before limit n (query.QueryAny cs) h = (h.0, members_before limit n Or cs h.1)
 
   members_before : (limit n : ℕ) (joint : Joint) (cs : QueryCondTrees) → MembersShape limit (n + 1) joint cs → MembersShape limit n joint cs
-  members_before limit n joint query.no_cond h = h
-  members_before limit n joint (query.more_conds c cs) h =
+  members_before limit n joint query.no_query_cond h = h
+  members_before limit n joint (query.more_query_conds c cs) h =
       (around_before limit n (is_enclosed joint c) (λ m. CondShape limit m c) (λ m. cond_before limit m c) h.0, members_before limit n joint cs h.1)
 
 filter_before : (limit n : ℕ) (f : Option QueryCondTree) → FilterShape limit (n + 1) f → FilterShape limit n f
@@ -155,9 +155,9 @@ mutual
   expr_before limit n query.Empty h = may_before limit n h
   expr_before limit n (query.Seq parts) h = (may_before limit n h.0, h.1, parts_before limit (n + 1) parts h.2)
   expr_before limit n (query.Elem name body) h = (may_before limit n h.0, parts_before limit (n + 1) body h.1)
-  expr_before limit n (query.Path p) h = h
-  expr_before limit n (query.For cs f e) h = (may_before limit n h.0, h.1, filter_before limit (n + 1) f h.2, expr_before limit (n + 1) e h.3)
-  expr_before limit n (query.If c a b) h = (may_before limit n h.0, cond_before limit (n + 1) c h.1, expr_before limit (n + 1) a h.2, expr_before limit (n + 1) b h.3)
+  expr_before limit n (query.QueryPath p) h = h
+  expr_before limit n (query.QueryFor cs f e) h = (may_before limit n h.0, h.1, filter_before limit (n + 1) f h.2, expr_before limit (n + 1) e h.3)
+  expr_before limit n (query.QueryIf c a b) h = (may_before limit n h.0, cond_before limit (n + 1) c h.1, expr_before limit (n + 1) a h.2, expr_before limit (n + 1) b h.3)
 
   parts_before : (limit n : ℕ) (es : ExprTrees) → PartsShape limit (n + 1) es → PartsShape limit n es
   parts_before limit n query.no_expr h = h

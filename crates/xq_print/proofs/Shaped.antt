@@ -33,12 +33,12 @@ bare limit n false c h = h
 
 -- each member of an All that stands in none is one of an Any
 as_any : (limit n : ℕ) (c : QueryCondTree) → MemberShape limit n And c → MemberShape limit n Or c
-as_any limit n query.Always h = h
-as_any limit n (query.Exists p) h = h
-as_any limit n (query.Compare l r o) h = h
-as_any limit n (query.Not c) h = h
-as_any limit n (query.All cs) h = bare limit n true (query.All cs) h
-as_any limit n (query.Any cs) h = h
+as_any limit n query.QueryAlways h = h
+as_any limit n (query.QueryExists p) h = h
+as_any limit n (query.QueryCompare l r o) h = h
+as_any limit n (query.QueryNot c) h = h
+as_any limit n (query.QueryAll cs) h = bare limit n true (query.QueryAll cs) h
+as_any limit n (query.QueryAny cs) h = h
 
 mutual
   cond_shaped : (limit n : ℕ) (c : g.Cond) → CondFits limit n c → CondShape limit n (derived_cond c)
@@ -72,7 +72,7 @@ source_shaped : (s : g.Source) → HasStep (source_tree s).steps
 source_shaped (g.in_var at x s ss) = tt
 source_shaped (g.in_root s ss) = tt
 
-clause_shaped : (c : g.Clause) → HasStep (clause_tree c).path.steps
+clause_shaped : (c : g.ClauseSyntax) → HasStep (clause_tree c).path.steps
 clause_shaped (g.clause at x s) = source_shaped s
 
 clauses_shaped : (cs : g.Clauses) → AreClauses (clauses_tree cs)

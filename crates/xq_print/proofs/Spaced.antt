@@ -14,7 +14,7 @@ use Rattle.gcx_base.specs.declared.steps.Axis.TheVariants.{Child, Descendant}
 use Rattle.gcx_base.specs.declared.steps.Test.{Test}
 use Rattle.gcx_base.specs.declared.steps.Test.TheVariants.{Named, AnyElement, AnyText, AnyNode}
 use Rattle.gcx_base.specs.declared.steps.Step.{Step}
-use Rattle.gcx_model.specs.Values.{is_digit, is_numeral}
+use Rattle.gcx_model.specs.Values.{is_digit_byte, is_numeral}
 use Rattle.gcx_model.specs.declared.query.PathExpr.{PathExpr}
 use Rattle.gcx_model.specs.declared.query.Clause.{Clause}
 use Rattle.gcx_model.specs.declared.query.QOperand.{QOperand}
@@ -160,7 +160,7 @@ as_name x (sign s) before other good = tt
 no_start : (x : ℕ) (n rest : List ℕ) → is_start_char x ≡ false → IsKind (kinds.Name n) → begins x (chars n ++ rest) ≡ false
 no_start x n rest other i = subst (λ (k : TokKind). BeginsAsName x k) (sym i.is) (as_name x i.form i.rest other i.good) rest
 
-digit_opens : (d : ℕ) (ds : List ℕ) → is_digit d ≡ true → Opens (d ∷ ds)
+digit_opens : (d : ℕ) (ds : List ℕ) → is_digit_byte d ≡ true → Opens (d ∷ ds)
 digit_opens d ds h =
     let high : d ≤ 57 = leb-true d 57 (and_parts (nat_le 48 d) (nat_le d 57) h).1 in
     record { colon = not_from_false (d == 58) (ne_eqb d 58 (λ e. omega arith)); equal = not_from_false (d == 61) (ne_eqb d 61 (λ e. omega arith)) }
@@ -169,9 +169,9 @@ number_opens : (m : Bool) (w f rest : List ℕ) → is_number w f ≡ true → O
 number_opens true w f rest good = record { colon = refl; equal = refl }
 number_opens false [] f rest good = absurd (false≢true good)
 number_opens false (d ∷ ds) f rest good =
-    let whole : is_numeral (d ∷ ds) ≡ true = (and_parts (is_numeral (d ∷ ds)) (list_all is_digit f) good).0 in
-    let digits : list_all is_digit (d ∷ ds) ≡ true = (and_parts (nat_lt 0 (length (d ∷ ds))) (list_all is_digit (d ∷ ds)) whole).1 in
-    digit_opens d _ (and_parts (is_digit d) (list_all is_digit ds) digits).0
+    let whole : is_numeral (d ∷ ds) ≡ true = (and_parts (is_numeral (d ∷ ds)) (list_all is_digit_byte f) good).0 in
+    let digits : list_all is_digit_byte (d ∷ ds) ≡ true = (and_parts (nat_lt 0 (length (d ∷ ds))) (list_all is_digit_byte (d ∷ ds)) whole).1 in
+    digit_opens d _ (and_parts (is_digit_byte d) (list_all is_digit_byte ds) digits).0
 
 units_open : (u : ℤ) (rest : List ℕ) → IsKind (kinds.Number u) → Opens (form_chars (form_of (kinds.Number u)) rest)
 units_open u rest i = number_opens (is_minus u) (whole_digits u) (fraction_digits u) rest ((written (kinds.Number u) i).begins [] refl).good
@@ -355,19 +355,19 @@ true_item = record { apart = λ k c. (is_true, refl, (is_sign signs.ParenOpen, r
 
 mutual
   cond_item : (c : QueryCondTree) → LexicalCond c → Item (cond_pieces c)
-  cond_item query.Always l = true_item
-  cond_item (query.Exists path) l =
+  cond_item query.QueryAlways l = true_item
+  cond_item (query.QueryExists path) l =
       headed (word exists_ ∷ mark signs.ParenOpen ∷ []) (path_pieces path ++ (mark signs.ParenClose ∷ [])) exists_head (tailed (path_pieces path) (mark signs.ParenClose ∷ []) (path_item path l) close_tail)
-  cond_item (query.Compare left rel right) l =
+  cond_item (query.QueryCompare left rel right) l =
       tailed (operand_pieces left) (rel_pieces rel ++ operand_pieces right) (operand_item left l.0) (linked (rel_pieces rel) (operand_pieces right) (rel_link rel) (operand_item right l.1))
-  cond_item (query.Not inner) l =
+  cond_item (query.QueryNot inner) l =
       headed (word not_ ∷ mark signs.ParenOpen ∷ []) (cond_pieces inner ++ (mark signs.ParenClose ∷ [])) not_head (tailed (cond_pieces inner) (mark signs.ParenClose ∷ []) (cond_item inner l) close_tail)
-  cond_item (query.All members) l = joined_items (joint_pieces And) (members_pieces And members) (joint_link And) (member_items And members l)
-  cond_item (query.Any members) l = joined_items (joint_pieces Or) (members_pieces Or members) (joint_link Or) (member_items Or members l)
+  cond_item (query.QueryAll members) l = joined_items (joint_pieces And) (members_pieces And members) (joint_link And) (member_items And members l)
+  cond_item (query.QueryAny members) l = joined_items (joint_pieces Or) (members_pieces Or members) (joint_link Or) (member_items Or members l)
 
   member_items : (j : Joint) (cs : QueryCondTrees) → LexicalConds cs → Items (members_pieces j cs)
-  member_items j query.no_cond l = tt
-  member_items j (query.more_conds c cs) l = (enclosed_item (is_enclosed j c) (cond_pieces c) (cond_item c l.0), member_items j cs l.1)
+  member_items j query.no_query_cond l = tt
+  member_items j (query.more_query_conds c cs) l = (enclosed_item (is_enclosed j c) (cond_pieces c) (cond_item c l.0), member_items j cs l.1)
 
 -- ---- Expressions
 
@@ -429,14 +429,14 @@ mutual
   expr_item (query.Elem n body) l =
       headed (start_tag_pieces n) (body_pieces (exprs_pieces body) ++ end_tag_pieces n) (start_tag_head n l.0)
       (tailed (body_pieces (exprs_pieces body)) (end_tag_pieces n) (body_item (exprs_pieces body) (expr_items body l.1)) (end_tag_tail n l.0))
-  expr_item (query.Path path) l = path_item path l
-  expr_item (query.For clauses filter body) l =
+  expr_item (query.QueryPath path) l = path_item path l
+  expr_item (query.QueryFor clauses filter body) l =
       headed (word for_ ∷ blank ∷ []) (joined_pieces comma (map clause_pieces clauses) ++ (filter_pieces filter ++ ((blank ∷ word return_ ∷ blank ∷ []) ++ expr_pieces body))) for_head
       (tailed (joined_pieces comma (map clause_pieces clauses)) (filter_pieces filter ++ ((blank ∷ word return_ ∷ blank ∷ []) ++ expr_pieces body))
       (joined_items comma (map clause_pieces clauses) comma_link (clause_items clauses l.0))
       (tails (filter_pieces filter) ((blank ∷ word return_ ∷ blank ∷ []) ++ expr_pieces body) (filter_tail filter l.1)
       (linked (blank ∷ word return_ ∷ blank ∷ []) (expr_pieces body) (word_link return_ is_return) (expr_item body l.2))))
-  expr_item (query.If c this other) l =
+  expr_item (query.QueryIf c this other) l =
       headed (word if_ ∷ blank ∷ mark signs.ParenOpen ∷ []) (cond_pieces c ++ ((mark signs.ParenClose ∷ blank ∷ word then_ ∷ blank ∷ []) ++ (expr_pieces this ++ ((blank ∷ word else_ ∷ blank ∷ []) ++ expr_pieces other)))) if_head
       (tailed (cond_pieces c) ((mark signs.ParenClose ∷ blank ∷ word then_ ∷ blank ∷ []) ++ (expr_pieces this ++ ((blank ∷ word else_ ∷ blank ∷ []) ++ expr_pieces other))) (cond_item c l.0)
       (linked (mark signs.ParenClose ∷ blank ∷ word then_ ∷ blank ∷ []) (expr_pieces this ++ ((blank ∷ word else_ ∷ blank ∷ []) ++ expr_pieces other)) then_link

@@ -8,7 +8,7 @@ use Rattle.std.proofs.lemmas.Bool.{and_parts, and_from, or_cases, cond_both, not
 use Rattle.std.proofs.lemmas.Bool.Decides.{nat_tests}
 use Rattle.std.proofs.lemmas.Str.{IsUtf8-append, encodes-append, chars_from_encodes}
 use Rattle.gcx_base.specs.Characters.{is_char}
-use Rattle.doc_chars.specs.Reference.{Refers, lt, gt, amp, apos, quot, decimal, hexadecimal}
+use Rattle.doc_chars.specs.Reference.{Refers, lt, gt, amp, apos, quot, by_decimal, by_hexadecimal}
 use Rattle.xq_lex.specs.declared.token.TokKind.TheVariants as kinds
 use Rattle.xq_lex.specs.Sign.{begins}
 use Rattle.xq_lex.specs.Strings.{Part, plain, doubled, reference, is_quote, part_chars, IsPart, part_value, parts_chars, AreParts, parts_value}
@@ -25,8 +25,8 @@ refers_char text c (gt e h) = ap is_char h
 refers_char text c (amp e h) = ap is_char h
 refers_char text c (apos e h) = ap is_char h
 refers_char text c (quot e h) = ap is_char h
-refers_char text c (decimal digits n e) = n.char
-refers_char text c (hexadecimal digits n e) = n.char
+refers_char text c (by_decimal digits n e) = n.char
+refers_char text c (by_hexadecimal digits n e) = n.char
 
 quote_char : (q : ℕ) → is_quote q ≡ true → is_char q ≡ true
 quote_char q e = by (or_cases (q == 34) (q == 39) e)

@@ -101,22 +101,22 @@ enclosed_is false ps x e = e
 
 mutual
   cond_is : (c : QueryCondTree) → text_of (cond_pieces c) ≡ cond_text c
-  cond_is query.Always = refl
-  cond_is (query.Exists path) =
+  cond_is query.QueryAlways = refl
+  cond_is (query.QueryExists path) =
       beside (word exists_ ∷ mark signs.ParenOpen ∷ []) (path_pieces path ++ (mark signs.ParenClose ∷ [])) (codes "exists(") (path_text path ++ codes ")") refl
       (beside (path_pieces path) (mark signs.ParenClose ∷ []) (path_text path) (codes ")") (path_is path) refl)
-  cond_is (query.Compare left rel right) =
+  cond_is (query.QueryCompare left rel right) =
       beside (operand_pieces left) (rel_pieces rel ++ operand_pieces right) (operand_text left) (rel_text rel ++ operand_text right) (operand_is left)
       (beside (rel_pieces rel) (operand_pieces right) (rel_text rel) (operand_text right) (rel_is rel) (operand_is right))
-  cond_is (query.Not inner) =
+  cond_is (query.QueryNot inner) =
       beside (word not_ ∷ mark signs.ParenOpen ∷ []) (cond_pieces inner ++ (mark signs.ParenClose ∷ [])) (codes "not(") (cond_text inner ++ codes ")") refl
       (beside (cond_pieces inner) (mark signs.ParenClose ∷ []) (cond_text inner) (codes ")") (cond_is inner) refl)
-  cond_is (query.All members) = joined_by (joint_pieces And) (joint_text And) (members_pieces And members) (member_texts And members) (joint_is And) (members_are And members)
-  cond_is (query.Any members) = joined_by (joint_pieces Or) (joint_text Or) (members_pieces Or members) (member_texts Or members) (joint_is Or) (members_are Or members)
+  cond_is (query.QueryAll members) = joined_by (joint_pieces And) (joint_text And) (members_pieces And members) (member_texts And members) (joint_is And) (members_are And members)
+  cond_is (query.QueryAny members) = joined_by (joint_pieces Or) (joint_text Or) (members_pieces Or members) (member_texts Or members) (joint_is Or) (members_are Or members)
 
   members_are : (j : Joint) (cs : QueryCondTrees) → map text_of (members_pieces j cs) ≡ member_texts j cs
-  members_are j query.no_cond = refl
-  members_are j (query.more_conds c cs) = (λ i. enclosed_is (is_enclosed j c) (cond_pieces c) (cond_text c) (cond_is c) i ∷ members_are j cs i)
+  members_are j query.no_query_cond = refl
+  members_are j (query.more_query_conds c cs) = (λ i. enclosed_is (is_enclosed j c) (cond_pieces c) (cond_text c) (cond_is c) i ∷ members_are j cs i)
 
 -- ---- Expressions
 
@@ -147,8 +147,8 @@ mutual
   expr_is (query.Elem name body) =
       beside (start_tag_pieces name) (body_pieces (exprs_pieces body) ++ end_tag_pieces name) (start_tag name) (body_text (expr_texts body) ++ end_tag name) refl
       (beside (body_pieces (exprs_pieces body)) (end_tag_pieces name) (body_text (expr_texts body)) (end_tag name) (body_is (exprs_pieces body) ∙ ap body_text (exprs_are body)) refl)
-  expr_is (query.Path path) = path_is path
-  expr_is (query.For clauses filter body) =
+  expr_is (query.QueryPath path) = path_is path
+  expr_is (query.QueryFor clauses filter body) =
       beside (word for_ ∷ blank ∷ []) (joined_pieces comma (map clause_pieces clauses) ++ (filter_pieces filter ++ ((blank ∷ word return_ ∷ blank ∷ []) ++ expr_pieces body)))
       (codes "for ") (joined (codes ", ") (map clause_text clauses) ++ (filter_text filter ++ (codes " return " ++ expr_text body))) refl
       (beside (joined_pieces comma (map clause_pieces clauses)) (filter_pieces filter ++ ((blank ∷ word return_ ∷ blank ∷ []) ++ expr_pieces body))
@@ -156,7 +156,7 @@ mutual
       (joined_by comma (codes ", ") (map clause_pieces clauses) (map clause_text clauses) refl (clauses_are clauses))
       (beside (filter_pieces filter) ((blank ∷ word return_ ∷ blank ∷ []) ++ expr_pieces body) (filter_text filter) (codes " return " ++ expr_text body) (filter_is filter)
       (beside (blank ∷ word return_ ∷ blank ∷ []) (expr_pieces body) (codes " return ") (expr_text body) refl (expr_is body))))
-  expr_is (query.If c this other) =
+  expr_is (query.QueryIf c this other) =
       beside (word if_ ∷ blank ∷ mark signs.ParenOpen ∷ []) (cond_pieces c ++ ((mark signs.ParenClose ∷ blank ∷ word then_ ∷ blank ∷ []) ++ (expr_pieces this ++ ((blank ∷ word else_ ∷ blank ∷ []) ++ expr_pieces other))))
       (codes "if (") (cond_text c ++ (codes ") then " ++ (expr_text this ++ (codes " else " ++ expr_text other)))) refl
       (beside (cond_pieces c) ((mark signs.ParenClose ∷ blank ∷ word then_ ∷ blank ∷ []) ++ (expr_pieces this ++ ((blank ∷ word else_ ∷ blank ∷ []) ++ expr_pieces other)))

@@ -9,7 +9,7 @@ use Rattle.std.proofs.lemmas.Nat.{div-add-mod'}
 use Rattle.std.proofs.lemmas.Bool.{and_parts, and_from, or_from, or_parts, lt-ltb, le-ltb, ltb-false}
 use Rattle.std.proofs.lemmas.Bool.Decides.{nat_tests}
 use Rattle.std.proofs.lemmas.Str.{encode_ascii, encodes-append, IsUtf8-append}
-use Rattle.gcx_model.specs.Values.{digits_from, is_digit, is_numeral, with_sign}
+use Rattle.gcx_model.specs.Values.{digits_from, is_digit_byte, is_numeral, with_sign}
 use Rattle.xq_lex.specs.declared.token.TokKind.TheVariants as kinds
 use Rattle.xq_lex.specs.Numbers.{minus_chars, fraction_chars, number_chars, is_number, size_of, units_of, most_of, is_wide}
 use Rattle.xq_lex.specs.Form.{number, form_chars}
@@ -54,7 +54,7 @@ in_range_of m w f good narrow =
     let parts : (nat_lt (most_of m) (digits_from 0 w) ≡ false) × (nat_lt 18 (length f) ≡ false) = or_parts (nat_lt (most_of m) (digits_from 0 w)) (nat_lt 18 (length f)) narrow in
     record {
       whole = ltb-false (most_of m) (digits_from 0 w) parts.0;
-      fraction = few_below f (and_parts (is_numeral w) (list_all is_digit f) good).1 (ltb-false 18 (length f) parts.1);
+      fraction = few_below f (and_parts (is_numeral w) (list_all is_digit_byte f) good).1 (ltb-false 18 (length f) parts.1);
     }
 
 quotient_small : (m : Bool) (w p f : ℕ) → 0 < p → f < p → w ≤ most_of m → unsigned_abs (with_sign m (w * p + f)) / p ≤ most_of (is_minus (with_sign m (w * p + f)))
@@ -84,7 +84,7 @@ fraction_is : (u : ℤ) → ArePlacesOf 18 (unsigned_abs u % 10 ^ 18) (fraction_
 fraction_is u = fraction_places 18 (unsigned_abs u % 10 ^ 18) (mod-lt (unsigned_abs u) (one-le-pow 18 10 (omega arith)))
 
 number_good : (w f : List ℕ) (n k m : ℕ) → AreDigitsOf n w → ArePlacesOf k m f → is_number w f ≡ true
-number_good w f n k m a b = and_from (is_numeral w) (list_all is_digit f) (and_from (nat_lt 0 (length w)) (list_all is_digit w) (lt-ltb 0 (length w) a.some) a.digits) b.digits
+number_good w f n k m a b = and_from (is_numeral w) (list_all is_digit_byte f) (and_from (nat_lt 0 (length w)) (list_all is_digit_byte w) (lt-ltb 0 (length w) a.some) a.digits) b.digits
 
 size_is : (n : ℕ) (w f : List ℕ) → AreDigitsOf (n / 10 ^ 18) w → ArePlacesOf 18 (n % 10 ^ 18) f → size_of w f ≡ n
 size_is n w f a b = (λ i. a.value i * 10 ^ 18 + b.value i) ∙ div-add-mod' n (10 ^ 18)
@@ -96,26 +96,26 @@ narrow m n r w f a b h =
 
 -- ---- Its characters are bytes.
 
-digit_scalar : (c : ℕ) → is_digit c ≡ true → IsScalar c
+digit_scalar : (c : ℕ) → is_digit_byte c ≡ true → IsScalar c
 digit_scalar c h = grind (arith, nat_tests)
 
-digit_low : (c : ℕ) → is_digit c ≡ true → c < 128
+digit_low : (c : ℕ) → is_digit_byte c ≡ true → c < 128
 digit_low c h = grind (arith, nat_tests)
 
-digits_scalars : (ds : List ℕ) → list_all is_digit ds ≡ true → all_scalars ds ≡ true
+digits_scalars : (ds : List ℕ) → list_all is_digit_byte ds ≡ true → all_scalars ds ≡ true
 digits_scalars [] h = refl
-digits_scalars (d ∷ ds) h = let parts = and_parts (is_digit d) (list_all is_digit ds) h in (λ i. digit_scalar d parts.0 i && digits_scalars ds parts.1 i)
+digits_scalars (d ∷ ds) h = let parts = and_parts (is_digit_byte d) (list_all is_digit_byte ds) h in (λ i. digit_scalar d parts.0 i && digits_scalars ds parts.1 i)
 
-digits_bytes : (ds : List ℕ) → list_all is_digit ds ≡ true → encode_utf8_all ds ≡ ds
+digits_bytes : (ds : List ℕ) → list_all is_digit_byte ds ≡ true → encode_utf8_all ds ≡ ds
 digits_bytes [] h = refl
-digits_bytes (d ∷ ds) h = let parts = and_parts (is_digit d) (list_all is_digit ds) h in (λ i. encode_ascii d (digit_low d parts.0) i ++ digits_bytes ds parts.1 i)
+digits_bytes (d ∷ ds) h = let parts = and_parts (is_digit_byte d) (list_all is_digit_byte ds) h in (λ i. encode_ascii d (digit_low d parts.0) i ++ digits_bytes ds parts.1 i)
 
 -- characters of which each is one byte
 record AreBytes (cs : List ℕ) : Type 0 where
   utf8 : IsUtf8 cs
   same : encode_utf8_all cs ≡ cs
 
-digits_are : (ds : List ℕ) → list_all is_digit ds ≡ true → AreBytes ds
+digits_are : (ds : List ℕ) → list_all is_digit_byte ds ≡ true → AreBytes ds
 digits_are ds h = record { utf8 = (ds, (digits_scalars ds h, digits_bytes ds h)); same = digits_bytes ds h }
 
 one_byte : (c : ℕ) → c < 128 → encode_utf8_all (c ∷ []) ≡ c ∷ []
@@ -128,14 +128,14 @@ minus_are false = record { utf8 = ([], (refl, refl)); same = refl }
 both_are : (a b : List ℕ) → AreBytes a → AreBytes b → AreBytes (a ++ b)
 both_are a b p q = record { utf8 = IsUtf8-append a b p.utf8 q.utf8; same = encodes-append a b ∙ (λ i. p.same i ++ q.same i) }
 
-point_are : (ds : List ℕ) → list_all is_digit ds ≡ true → AreBytes (fraction_chars ds)
+point_are : (ds : List ℕ) → list_all is_digit_byte ds ≡ true → AreBytes (fraction_chars ds)
 point_are [] h = record { utf8 = ([], (refl, refl)); same = refl }
 point_are (d ∷ ds) h = both_are (46 ∷ []) (d ∷ ds) (record { utf8 = (46 ∷ [], (refl, one_byte 46 (omega arith))); same = one_byte 46 (omega arith) }) (digits_are (d ∷ ds) h)
 
 number_are : (m : Bool) (w f : List ℕ) → is_number w f ≡ true → AreBytes (number_chars m w f)
 number_are m w f good =
-    let both : (is_numeral w ≡ true) × (list_all is_digit f ≡ true) = and_parts (is_numeral w) (list_all is_digit f) good in
-    let digits : list_all is_digit w ≡ true = (and_parts (nat_lt 0 (length w)) (list_all is_digit w) both.0).1 in
+    let both : (is_numeral w ≡ true) × (list_all is_digit_byte f ≡ true) = and_parts (is_numeral w) (list_all is_digit_byte f) good in
+    let digits : list_all is_digit_byte w ≡ true = (and_parts (nat_lt 0 (length w)) (list_all is_digit_byte w) both.0).1 in
     both_are (minus_chars m) (w ++ fraction_chars f) (minus_are m) (both_are w (fraction_chars f) (digits_are w digits) (point_are f both.1))
 
 pub number_fits : (u : ℤ) → unsigned_abs u / 10 ^ 18 ≤ most_of (is_minus u) → Fits (number (is_minus u) (whole_digits u) (fraction_digits u)) (kinds.Number u)

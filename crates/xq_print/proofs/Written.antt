@@ -5,7 +5,7 @@ use Rattle.std.specs.Char.{encode_utf8}
 use Rattle.std.specs.Str.{chars, encode_utf8_all}
 use Rattle.std.proofs.lemmas.Str.{encode_ascii, encodes-append}
 use Rattle.xq_lex.specs.declared.sign.Sign.{Sign}
-use Rattle.xq_lex.specs.declared.sign.Sign.TheVariants.{ParenOpen, ParenClose, BraceOpen, BraceClose, Comma, Slash, SlashSlash, Axis, Star, Eq, Ne, Lt, Le, Gt, Ge, EndTag, EmptyEnd}
+use Rattle.xq_lex.specs.declared.sign.Sign.TheVariants as signs
 use Rattle.xq_lex.specs.declared.token.TokKind.{TokKind}
 use Rattle.xq_lex.specs.declared.token.TokKind.TheVariants as kinds
 use Rattle.xq_lex.specs.Sign.{sign_chars}
@@ -46,23 +46,23 @@ low_first c cs h = ap (λ (x : List ℕ). x ++ encode_utf8_all cs) (encode_ascii
 
 sign_bytes : (s : Sign) → encode_utf8_all (sign_chars s) ≡ sign_chars s
 unfolding encode_utf8
-sign_bytes ParenOpen = refl
-sign_bytes ParenClose = refl
-sign_bytes BraceOpen = refl
-sign_bytes BraceClose = refl
-sign_bytes Comma = refl
-sign_bytes Slash = refl
-sign_bytes SlashSlash = refl
-sign_bytes Axis = refl
-sign_bytes Star = refl
-sign_bytes Eq = refl
-sign_bytes Ne = refl
-sign_bytes Lt = refl
-sign_bytes Le = refl
-sign_bytes Gt = refl
-sign_bytes Ge = refl
-sign_bytes EndTag = refl
-sign_bytes EmptyEnd = refl
+sign_bytes signs.ParenOpen = refl
+sign_bytes signs.ParenClose = refl
+sign_bytes signs.BraceOpen = refl
+sign_bytes signs.BraceClose = refl
+sign_bytes signs.Comma = refl
+sign_bytes signs.Slash = refl
+sign_bytes signs.SlashSlash = refl
+sign_bytes signs.Axis = refl
+sign_bytes signs.Star = refl
+sign_bytes signs.Eq = refl
+sign_bytes signs.Ne = refl
+sign_bytes signs.Lt = refl
+sign_bytes signs.Le = refl
+sign_bytes signs.Gt = refl
+sign_bytes signs.Ge = refl
+sign_bytes signs.EndTag = refl
+sign_bytes signs.EmptyEnd = refl
 
 string_bytes : (cs rest : List ℕ) → encode_utf8_all (34 ∷ parts_chars 34 (parts_of cs) (34 ∷ rest)) ≡ (34 ∷ (encode_utf8_all (flat_map quoted cs) ++ 34 ∷ [])) ++ encode_utf8_all rest
 string_bytes cs rest =

@@ -74,13 +74,13 @@ joint_text Or = codes " or "
 
 -- A member stands in parentheses: an All or Any inside an All, and an Any inside an Any.
 abbrev pub is_enclosed : Joint → QueryCondTree → Bool
-is_enclosed joint query.Always = false
-is_enclosed joint (query.Exists path) = false
-is_enclosed joint (query.Compare left rel right) = false
-is_enclosed joint (query.Not inner) = false
-is_enclosed And (query.All members) = true
-is_enclosed Or (query.All members) = false
-is_enclosed joint (query.Any members) = true
+is_enclosed joint query.QueryAlways = false
+is_enclosed joint (query.QueryExists path) = false
+is_enclosed joint (query.QueryCompare left rel right) = false
+is_enclosed joint (query.QueryNot inner) = false
+is_enclosed And (query.QueryAll members) = true
+is_enclosed Or (query.QueryAll members) = false
+is_enclosed joint (query.QueryAny members) = true
 
 abbrev pub enclosed : Bool → List ℕ → List ℕ
 enclosed true text = in_parens text
@@ -88,16 +88,16 @@ enclosed false text = text
 
 abbrev mutual
   pub cond_text : QueryCondTree → List ℕ
-  cond_text query.Always = codes "true()"
-  cond_text (query.Exists path) = codes "exists(" ++ (path_text path ++ codes ")")
-  cond_text (query.Compare left rel right) = operand_text left ++ (rel_text rel ++ operand_text right)
-  cond_text (query.Not inner) = codes "not(" ++ (cond_text inner ++ codes ")")
-  cond_text (query.All members) = joined (joint_text And) (member_texts And members)
-  cond_text (query.Any members) = joined (joint_text Or) (member_texts Or members)
+  cond_text query.QueryAlways = codes "true()"
+  cond_text (query.QueryExists path) = codes "exists(" ++ (path_text path ++ codes ")")
+  cond_text (query.QueryCompare left rel right) = operand_text left ++ (rel_text rel ++ operand_text right)
+  cond_text (query.QueryNot inner) = codes "not(" ++ (cond_text inner ++ codes ")")
+  cond_text (query.QueryAll members) = joined (joint_text And) (member_texts And members)
+  cond_text (query.QueryAny members) = joined (joint_text Or) (member_texts Or members)
 
   pub member_texts : Joint → QueryCondTrees → List (List ℕ)
-  member_texts joint query.no_cond = []
-  member_texts joint (query.more_conds c cs) = enclosed (is_enclosed joint c) (cond_text c) ∷ member_texts joint cs
+  member_texts joint query.no_query_cond = []
+  member_texts joint (query.more_query_conds c cs) = enclosed (is_enclosed joint c) (cond_text c) ∷ member_texts joint cs
 
 -- ---- Expressions
 
@@ -118,10 +118,10 @@ abbrev mutual
   expr_text query.Empty = codes "()"
   expr_text (query.Seq parts) = in_parens (joined (codes ", ") (expr_texts parts))
   expr_text (query.Elem name body) = start_tag name ++ (body_text (expr_texts body) ++ end_tag name)
-  expr_text (query.Path path) = path_text path
-  expr_text (query.For clauses filter body) =
+  expr_text (query.QueryPath path) = path_text path
+  expr_text (query.QueryFor clauses filter body) =
       codes "for " ++ (joined (codes ", ") (map clause_text clauses) ++ (filter_text filter ++ (codes " return " ++ expr_text body)))
-  expr_text (query.If c this other) =
+  expr_text (query.QueryIf c this other) =
       codes "if (" ++ (cond_text c ++ (codes ") then " ++ (expr_text this ++ (codes " else " ++ expr_text other))))
 
   pub expr_texts : ExprTrees → List (List ℕ)

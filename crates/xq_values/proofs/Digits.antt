@@ -9,7 +9,7 @@ use Rattle.std.proofs.lemmas.List.{length-take-le, take-append-drop}
 use Rattle.std.proofs.lemmas.List.Folds.{list_all-append}
 use Rattle.std.proofs.lemmas.Bool.{and_parts}
 use Rattle.std.proofs.lemmas.Bool.Decides.{nat_tests}
-use Rattle.gcx_model.specs.Values.{digits_from, is_digit}
+use Rattle.gcx_model.specs.Values.{digits_from, is_digit_byte}
 use Rattle.xq_values.proofs.Orders.{cmp-scaled, cmp-whole, then-equal}
 
 pub ten_pos : (k : ℕ) → 0 < 10 ^ k
@@ -35,16 +35,16 @@ digits_from-start n (d ∷ ds) =
     (digits_from-start (n * 10 + (d - 48)) ds) (digits_from-start (0 * 10 + (d - 48)) ds)
     ∙ ap (λ q. n * q + digits_from (0 * 10 + (d - 48)) ds) (sym (pow-suc 10 (length ds)))
 
-pub is_digit-≤ : (d : ℕ) → is_digit d ≡ true → (48 ≤ d) × (d ≤ 57)
+pub is_digit-≤ : (d : ℕ) → is_digit_byte d ≡ true → (48 ≤ d) × (d ≤ 57)
 is_digit-≤ d e = (grind (arith, nat_tests), grind (arith, nat_tests))
 
 under_step : (n e q : ℕ) → e ≤ 9 → (n * 10 + e + 1) * q ≤ (n + 1) * (q * 10)
 under_step n e q small = let most : q * (n * 10 + e + 1) ≤ q * (n * 10 + 10) = mul-le-mul_left q (omega arith) in omega (arith, most)
 
-pub digits_from-< : (n : ℕ) (ds : List ℕ) → list_all is_digit ds ≡ true → digits_from n ds < (n + 1) * 10 ^ length ds
+pub digits_from-< : (n : ℕ) (ds : List ℕ) → list_all is_digit_byte ds ≡ true → digits_from n ds < (n + 1) * 10 ^ length ds
 digits_from-< n [] all = omega arith
 digits_from-< n (d ∷ ds) all =
-    let parts : (is_digit d ≡ true) × (list_all is_digit ds ≡ true) = and_parts (is_digit d) (list_all is_digit ds) all in
+    let parts : (is_digit_byte d ≡ true) × (list_all is_digit_byte ds ≡ true) = and_parts (is_digit_byte d) (list_all is_digit_byte ds) all in
     let digit : d ≤ 57 = (is_digit-≤ d parts.0).1 in
     let behind : digits_from (n * 10 + (d - 48)) ds < (n * 10 + (d - 48) + 1) * 10 ^ length ds = digits_from-< (n * 10 + (d - 48)) ds parts.1 in
     let step : (n * 10 + (d - 48) + 1) * 10 ^ length ds ≤ (n + 1) * (10 ^ length ds * 10) = under_step n (d - 48) (10 ^ length ds) (omega arith) in
@@ -53,7 +53,7 @@ digits_from-< n (d ∷ ds) all =
     below : {a b c : ℕ} → a < b → b ≤ c → a < c
     below h k = omega arith
 
-pub fraction-< : (ds : List ℕ) → list_all is_digit ds ≡ true → digits_from 0 ds < 10 ^ length ds
+pub fraction-< : (ds : List ℕ) → list_all is_digit_byte ds ≡ true → digits_from 0 ds < 10 ^ length ds
 fraction-< ds all = omega (arith, digits_from-< 0 ds all)
 
 -- digits write 0 exactly where each is 0
@@ -64,10 +64,10 @@ zeros (d ∷ ds) all =
     let zero_digit : 0 * 10 + (d - 48) ≡ 0 = grind (arith, nat_tests) in
     ap (λ n. digits_from n ds) zero_digit ∙ zeros ds parts.1
 
-pub nonzero : (ds : List ℕ) → list_all is_digit ds ≡ true → list_all (λ d. d == 48) ds ≡ false → 0 < digits_from 0 ds
+pub nonzero : (ds : List ℕ) → list_all is_digit_byte ds ≡ true → list_all (λ d. d == 48) ds ≡ false → 0 < digits_from 0 ds
 nonzero [] all none = cc
 nonzero (d ∷ ds) all none =
-    let parts : (is_digit d ≡ true) × (list_all is_digit ds ≡ true) = and_parts (is_digit d) (list_all is_digit ds) all in
+    let parts : (is_digit_byte d ≡ true) × (list_all is_digit_byte ds ≡ true) = and_parts (is_digit_byte d) (list_all is_digit_byte ds) all in
     go (d == 48) refl (is_digit-≤ d parts.0).0 (nonzero ds parts.1)
   where
     go : (b : Bool) → (d == 48) ≡ b → 48 ≤ d → (list_all (λ d. d == 48) ds ≡ false → 0 < digits_from 0 ds) → 0 < digits_from (0 * 10 + (d - 48)) ds
@@ -134,7 +134,7 @@ digits_split whole counted rest =
     ∙ digits_from-start (digits_from 0 (whole ++ counted)) rest
 
 -- the size in units of the digits that count, and then the rest, order as all digits do
-pub counted_and_rest : (whole counted rest : List ℕ) (m : ℕ) → length counted ≤ 18 → list_all is_digit rest ≡ true → (length counted ≡ 18) ⊎ (length rest ≡ 0)
+pub counted_and_rest : (whole counted rest : List ℕ) (m : ℕ) → length counted ≤ 18 → list_all is_digit_byte rest ≡ true → (length counted ≡ 18) ⊎ (length rest ≡ 0)
     → ordering_then (nat_cmp (digits_from 0 (whole ++ counted) * 10 ^ (18 - length counted)) m) (nat_cmp (digits_from 0 rest) 0)
     ≡ nat_cmp (digits_from 0 (whole ++ (counted ++ rest)) * 10 ^ 18) (m * 10 ^ length (counted ++ rest))
 counted_and_rest whole counted rest m few digits all =
@@ -145,7 +145,7 @@ behind : (p : ℕ → Bool) (xs ys : List ℕ) → list_all p (xs ++ ys) ≡ tru
 behind p xs ys all = (and_parts (list_all p xs) (list_all p ys) (sym (list_all-append p xs ys) ∙ all)).1
 
 -- the same for the first i digits of the fraction, which are the first 18 or all
-pub at_18_places : (whole fraction : List ℕ) (i m : ℕ) → i ≡ min (length fraction) 18 → list_all is_digit (whole ++ fraction) ≡ true
+pub at_18_places : (whole fraction : List ℕ) (i m : ℕ) → i ≡ min (length fraction) 18 → list_all is_digit_byte (whole ++ fraction) ≡ true
     → ordering_then (nat_cmp (digits_from 0 (whole ++ take i fraction) * 10 ^ (18 - length (take i fraction))) m) (nat_cmp (digits_from 0 (drop i fraction)) 0)
     ≡ nat_cmp (digits_from 0 (whole ++ fraction) * 10 ^ 18) (m * 10 ^ length fraction)
 at_18_places whole fraction i m first digits =
@@ -155,9 +155,9 @@ at_18_places whole fraction i m first digits =
     size : length (take i fraction) ≡ i
     size = length-take-le i fraction (omega arith)
 
-    rest : list_all is_digit (drop i fraction) ≡ true
-    rest = behind is_digit (take i fraction) (drop i fraction)
-        (ap (list_all is_digit) (take-append-drop i fraction) ∙ behind is_digit whole fraction digits)
+    rest : list_all is_digit_byte (drop i fraction) ≡ true
+    rest = behind is_digit_byte (take i fraction) (drop i fraction)
+        (ap (list_all is_digit_byte) (take-append-drop i fraction) ∙ behind is_digit_byte whole fraction digits)
 
     all_or_18 : (b : Bool) → nat_le 18 (length fraction) ≡ b → (length (take i fraction) ≡ 18) ⊎ (length (drop i fraction) ≡ 0)
     all_or_18 true is = inl (let long : 18 ≤ length fraction = grind (arith, nat_tests) in omega (arith, size))

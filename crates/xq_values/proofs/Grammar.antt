@@ -9,7 +9,7 @@ use Rattle.std.proofs.lemmas.Option.{cond_some}
 use Rattle.std.proofs.lemmas.Bool.{and_from, and_parts}
 use Rattle.std.proofs.lemmas.Bool.Decides.{nat_tests}
 use Rattle.gcx_base.specs.Characters.{is_white}
-use Rattle.gcx_model.specs.Values.{is_digit, is_point, without_front, without_back, trimmed, is_negative, without_sign, whole_of, fraction_of, is_numeral, Decimal, decimal, decimal_of, number, Sign, Bare, Plus, Minus, sign_bytes, is_minus, Numeral, Whole, Pointed, numeral_bytes, before_point, behind_point, CountsAs}
+use Rattle.gcx_model.specs.Values.{is_digit_byte, is_point, without_front, without_back, trimmed, is_negative, without_sign, whole_of, fraction_of, is_numeral, Decimal, decimal_number, decimal_of, number, Sign, Bare, Plus, Minus, sign_bytes, is_minus, Numeral, DigitsAlone, Pointed, numeral_bytes, before_point, behind_point, CountsAs}
 use Rattle.xq_values.proofs.Digits.{is_digit-≤}
 
 -- ---- from a value to its parts
@@ -95,15 +95,15 @@ record Parted (u : List ℕ) : Type 0 where
   behind : fraction_of u ≡ behind_point numeral
 
 parted_of : (u : List ℕ) → Parted u
-parted_of [] = record { numeral = Whole []; bytes = refl; before = refl; behind = refl }
+parted_of [] = record { numeral = DigitsAlone []; bytes = refl; before = refl; behind = refl }
 parted_of (c ∷ cs) = go (is_point c) refl (parted_of cs)
   where
     at : (b : Bool) → is_point c ≡ b → whole_of (c ∷ cs) ≡ cond (not b) (c ∷ whole_of cs) []
     at b is = before-∷ c cs ∙ ap (λ a. cond (not a) (c ∷ whole_of cs) []) is
 
     on : (n : Numeral) → is_point c ≡ false → cs ≡ numeral_bytes n → whole_of cs ≡ before_point n → fraction_of cs ≡ behind_point n → Parted (c ∷ cs)
-    on (Whole digits) is bytes before behind = record {
-      numeral = Whole (c ∷ digits);
+    on (DigitsAlone digits) is bytes before behind = record {
+      numeral = DigitsAlone (c ∷ digits);
       bytes = ap (λ xs. c ∷ xs) bytes;
       before = at false is ∙ ap (λ xs. c ∷ xs) before;
       behind = after-∷ c cs false is ∙ behind;
@@ -143,7 +143,7 @@ counts_as v d is =
       white_front = f.all;
       white_back = b.all;
       digits = (λ i. is_numeral (sym n.before i ++ sym n.behind i)) ∙ some.0;
-      value = sym some.1 ∙ (λ i. decimal (s.minus i) (n.before i) (n.behind i));
+      value = sym some.1 ∙ (λ i. decimal_number (s.minus i) (n.before i) (n.behind i));
     }
 
 -- ---- what is spelled is a number
@@ -151,13 +151,13 @@ counts_as v d is =
 abbrev is_solid : ℕ → Bool
 is_solid c = not (is_white c)
 
-digit_solid : (c : ℕ) → is_digit c ≡ true → is_solid c ≡ true
+digit_solid : (c : ℕ) → is_digit_byte c ≡ true → is_solid c ≡ true
 digit_solid c is = let ends : (48 ≤ c) × (c ≤ 57) = is_digit-≤ c is in grind (arith, nat_tests)
 
-digits_solid : (ds : List ℕ) → list_all is_digit ds ≡ true → list_all is_solid ds ≡ true
+digits_solid : (ds : List ℕ) → list_all is_digit_byte ds ≡ true → list_all is_solid ds ≡ true
 digits_solid [] all = refl
 digits_solid (d ∷ ds) all =
-    let parts : (is_digit d ≡ true) × (list_all is_digit ds ≡ true) = and_parts (is_digit d) (list_all is_digit ds) all in
+    let parts : (is_digit_byte d ≡ true) × (list_all is_digit_byte ds ≡ true) = and_parts (is_digit_byte d) (list_all is_digit_byte ds) all in
     and_from (is_solid d) (list_all is_solid ds) (digit_solid d parts.0) (digits_solid ds parts.1)
 
 front-white : (ws xs : List ℕ) → list_all is_white ws ≡ true → without_front (ws ++ xs) ≡ without_front xs
@@ -190,14 +190,14 @@ trimmed-spelled front t back white_front white_back solid some =
         ∙ front-solid (reverse t) [] (all-reverse is_solid t solid) (omega (arith, length-reverse t, some))
         ∙ append-nil (reverse t)
 
-digit_no_point : (c : ℕ) → is_digit c ≡ true → is_point c ≡ false
+digit_no_point : (c : ℕ) → is_digit_byte c ≡ true → is_point c ≡ false
 digit_no_point c is = let ends : (48 ≤ c) × (c ≤ 57) = is_digit-≤ c is in grind (arith, nat_tests)
 
-digit_no_sign : (c : ℕ) → is_digit c ≡ true → ((c == 43) ≡ false) × ((c == 45) ≡ false)
+digit_no_sign : (c : ℕ) → is_digit_byte c ≡ true → ((c == 43) ≡ false) × ((c == 45) ≡ false)
 digit_no_sign c is = let ends : (48 ≤ c) × (c ≤ 57) = is_digit-≤ c is in (grind (arith, nat_tests), grind (arith, nat_tests))
 
-all_digits : (ds : List ℕ) → is_numeral ds ≡ true → list_all is_digit ds ≡ true
-all_digits ds is = (and_parts (nat_lt 0 (length ds)) (list_all is_digit ds) is).1
+all_digits : (ds : List ℕ) → is_numeral ds ≡ true → list_all is_digit_byte ds ≡ true
+all_digits ds is = (and_parts (nat_lt 0 (length ds)) (list_all is_digit_byte ds) is).1
 
 some_digits : (ds : List ℕ) → is_numeral ds ≡ true → 0 < length ds
 some_digits [] is = cc
@@ -208,7 +208,7 @@ record NoSign (u : List ℕ) : Type 0 where
   unsigned : without_sign u ≡ u
   plain : is_negative u ≡ false
 
-digit_first : (d : ℕ) (ds : List ℕ) → is_digit d ≡ true → NoSign (d ∷ ds)
+digit_first : (d : ℕ) (ds : List ℕ) → is_digit_byte d ≡ true → NoSign (d ∷ ds)
 digit_first d ds is =
     let differs : ((d == 43) ≡ false) × ((d == 45) ≡ false) = digit_no_sign d is in
     record {
@@ -217,10 +217,10 @@ digit_first d ds is =
     }
 
 no_sign : (n : Numeral) → is_numeral (before_point n ++ behind_point n) ≡ true → NoSign (numeral_bytes n)
-no_sign (Whole []) digits = absurd (omega (arith, some_digits [] digits))
-no_sign (Whole (d ∷ ds)) digits = digit_first d ds (and_parts (is_digit d) (list_all is_digit (ds ++ [])) (all_digits (d ∷ (ds ++ [])) digits)).0
+no_sign (DigitsAlone []) digits = absurd (omega (arith, some_digits [] digits))
+no_sign (DigitsAlone (d ∷ ds)) digits = digit_first d ds (and_parts (is_digit_byte d) (list_all is_digit_byte (ds ++ [])) (all_digits (d ∷ (ds ++ [])) digits)).0
 no_sign (Pointed [] behind) digits = record { unsigned = refl; plain = refl }
-no_sign (Pointed (d ∷ ds) behind) digits = digit_first d (ds ++ 46 ∷ behind) (and_parts (is_digit d) (list_all is_digit (ds ++ behind)) (all_digits (d ∷ (ds ++ behind)) digits)).0
+no_sign (Pointed (d ∷ ds) behind) digits = digit_first d (ds ++ 46 ∷ behind) (and_parts (is_digit_byte d) (list_all is_digit_byte (ds ++ behind)) (all_digits (d ∷ (ds ++ behind)) digits)).0
 
 without_sign-spelled : (s : Sign) (u : List ℕ) → NoSign u → without_sign (sign_bytes s ++ u) ≡ u
 without_sign-spelled Bare u none = none.unsigned
@@ -237,10 +237,10 @@ record Split (ds xs : List ℕ) : Type 0 where
   whole : whole_of (ds ++ xs) ≡ ds ++ whole_of xs
   fraction : fraction_of (ds ++ xs) ≡ fraction_of xs
 
-split_digits : (ds xs : List ℕ) → list_all is_digit ds ≡ true → Split ds xs
+split_digits : (ds xs : List ℕ) → list_all is_digit_byte ds ≡ true → Split ds xs
 split_digits [] xs all = record { whole = refl; fraction = refl }
 split_digits (d ∷ ds) xs all =
-    let parts : (is_digit d ≡ true) × (list_all is_digit ds ≡ true) = and_parts (is_digit d) (list_all is_digit ds) all in
+    let parts : (is_digit_byte d ≡ true) × (list_all is_digit_byte ds ≡ true) = and_parts (is_digit_byte d) (list_all is_digit_byte ds) all in
     let rest : Split ds xs = split_digits ds xs parts.1 in
     record {
       whole = before-∷ d (ds ++ xs) ∙ ap (λ b. cond (not b) (d ∷ whole_of (ds ++ xs)) []) (digit_no_point d parts.0) ∙ ap (λ ys. d ∷ ys) rest.whole;
@@ -254,9 +254,9 @@ record Parts (n : Numeral) : Type 0 where
   some : 0 < length (numeral_bytes n)
 
 parts_of : (n : Numeral) → is_numeral (before_point n ++ behind_point n) ≡ true → Parts n
-parts_of (Whole ds) digits =
+parts_of (DigitsAlone ds) digits =
     let same : ds ++ [] ≡ ds = append-nil ds in
-    let all : list_all is_digit ds ≡ true = ap (list_all is_digit) (sym same) ∙ all_digits (ds ++ []) digits in
+    let all : list_all is_digit_byte ds ≡ true = ap (list_all is_digit_byte) (sym same) ∙ all_digits (ds ++ []) digits in
     let split : Split ds [] = split_digits ds [] all in
     record {
       whole = ap whole_of (sym same) ∙ split.whole ∙ same;
@@ -265,7 +265,7 @@ parts_of (Whole ds) digits =
       some = some_digits ds (ap is_numeral (sym same) ∙ digits);
     }
 parts_of (Pointed b f) digits =
-    let all = and_parts (list_all is_digit b) (list_all is_digit f) (sym (list_all-append is_digit b f) ∙ all_digits (b ++ f) digits) in
+    let all = and_parts (list_all is_digit_byte b) (list_all is_digit_byte f) (sym (list_all-append is_digit_byte b f) ∙ all_digits (b ++ f) digits) in
     let split : Split b (46 ∷ f) = split_digits b (46 ∷ f) all.0 in
     record {
       whole = split.whole ∙ append-nil b;
@@ -293,5 +293,5 @@ number-spelled v d c =
     let whole : whole_of (without_sign (trimmed v)) ≡ before_point c.numeral = ap whole_of u ∙ p.whole in
     let fraction : fraction_of (without_sign (trimmed v)) ≡ behind_point c.numeral = ap fraction_of u ∙ p.fraction in
     (λ i. decimal_of (minus i) (whole i) (fraction i))
-    ∙ ap (λ b. cond b (Some (decimal (is_minus c.sign) (before_point c.numeral) (behind_point c.numeral))) None) c.digits
+    ∙ ap (λ b. cond b (Some (decimal_number (is_minus c.sign) (before_point c.numeral) (behind_point c.numeral))) None) c.digits
     ∙ ap Some (sym c.value)

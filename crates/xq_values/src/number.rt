@@ -3,7 +3,7 @@ ghost use Rattle.std.specs.List.{list_all};
 ghost use Rattle.std.specs.Ordering.{nat_cmp, int_cmp};
 ghost use Rattle.xq_values.specs.Wholes.{IsWhole};
 ghost use Rattle.gcx_base.specs.Characters.{is_white};
-ghost use Rattle.gcx_model.specs.Values.{against, CountsAs, Decimal, decimal_of, digits_from, fraction_of, is_digit, is_negative, is_point, number, trimmed, whole_of, without_front, without_sign};
+ghost use Rattle.gcx_model.specs.Values.{against, CountsAs, Decimal, decimal_of, digits_from, fraction_of, is_digit_byte, is_negative, is_point, number, trimmed, whole_of, without_front, without_sign};
 
 use std::cmp::Ordering;
 use std::marker::Model;
@@ -23,13 +23,13 @@ pub struct NumText<'a> {
 impl<'a> Model for NumText<'a> {
     ghost use Rattle.std.specs.Prelude.{◌≡◌, ◌++◌, true};
     ghost use Rattle.std.specs.List.{list_all};
-    ghost use Rattle.gcx_model.specs.Values.{Decimal, decimal, is_digit};
+    ghost use Rattle.gcx_model.specs.Values.{Decimal, decimal_number, is_digit_byte};
 
     ghost Value = { Decimal };
 
-    ghost view = { λ n. decimal n.negative n.whole.now n.fraction.now };
+    ghost view = { λ n. decimal_number n.negative n.whole.now n.fraction.now };
 
-    ghost invariant = { λ n. list_all is_digit (n.whole.now ++ n.fraction.now) ≡ true };
+    ghost invariant = { λ n. list_all is_digit_byte (n.whole.now ++ n.fraction.now) ≡ true };
 }
 
 fn is_white(c: u8) -> bool
@@ -39,7 +39,7 @@ fn is_white(c: u8) -> bool
 }
 
 fn is_digit(c: u8) -> bool
-    ensures { result ≡ is_digit c }
+    ensures { result ≡ is_digit_byte c }
 {
     c.is_ascii_digit()
 }
@@ -108,7 +108,7 @@ fn split_point(text: &[u8]) -> (&[u8], &[u8])
 }
 
 fn are_digits(text: &[u8]) -> bool
-    ensures { result ≡ list_all is_digit text.now }
+    ensures { result ≡ list_all is_digit_byte text.now }
 {
     text.iter().all(|c| is_digit(*c))
 }
@@ -121,7 +121,7 @@ fn are_zeros(digits: &[u8]) -> bool
 
 /// One more digit behind those of a number. None where it is 2^128 or more.
 fn with_digit(number: u128, digit: u8) -> Option<u128>
-    requires { is_digit digit ≡ true }
+    requires { is_digit_byte digit ≡ true }
     ensures { let longer = digits_from number (digit ∷ []) in
         MatchOption result (2 ^ 128 ≤ longer) (λ n. n ≡ longer) }
 {
@@ -132,7 +132,7 @@ fn with_digit(number: u128, digit: u8) -> Option<u128>
 
 /// The number that the digits write behind those of `start`. None where it is 2^128 or more.
 fn digits_from(start: u128, digits: &[u8]) -> Option<u128>
-    requires { list_all is_digit digits.now ≡ true }
+    requires { list_all is_digit_byte digits.now ≡ true }
     ensures { let whole = digits_from start digits.now in
         MatchOption result (2 ^ 128 ≤ whole) (λ n. n ≡ whole) }
 {
@@ -145,7 +145,7 @@ fn digits_from(start: u128, digits: &[u8]) -> Option<u128>
 
 /// The number of at most 18 places in units of 10^-18. None where it is 2^128 or more.
 fn in_units(whole: &[u8], fraction: &[u8]) -> Option<u128>
-    requires digits { list_all is_digit (whole.now ++ fraction.now) ≡ true }
+    requires digits { list_all is_digit_byte (whole.now ++ fraction.now) ≡ true }
     requires few { length fraction.now ≤ 18 }
     ensures { let size = digits_from 0 (whole.now ++ fraction.now) * 10 ^ (18 - length fraction.now) in
         MatchOption result (2 ^ 128 ≤ size) (λ n. n ≡ size) }
@@ -157,7 +157,7 @@ fn in_units(whole: &[u8], fraction: &[u8]) -> Option<u128>
 
 /// Whether the digits write 0 (Equal) or a number above it (Greater).
 fn compare_to_zero(digits: &[u8]) -> Ordering
-    requires { list_all is_digit digits.now ≡ true }
+    requires { list_all is_digit_byte digits.now ≡ true }
     ensures { result ≡ nat_cmp (digits_from 0 digits.now) 0 }
 {
     if are_zeros(digits) {
@@ -169,7 +169,7 @@ fn compare_to_zero(digits: &[u8]) -> Ordering
 
 /// Compares a number without its sign with a literal's size in units of 10^-18.
 fn compare_sizes(whole: &[u8], fraction: &[u8], units: u128) -> Ordering
-    requires { list_all is_digit (whole.now ++ fraction.now) ≡ true }
+    requires { list_all is_digit_byte (whole.now ++ fraction.now) ≡ true }
     ensures { let size = digits_from 0 (whole.now ++ fraction.now) in
         result ≡ nat_cmp (size * 10 ^ 18) (units * 10 ^ length fraction.now) }
 {

@@ -32,7 +32,7 @@ fn checked(alloc: Global, count: usize, trace: &[u8]) -> Result<Checked, Fail> {
 }
 
 /// The lines that each token tells, and the numbers of the first and of the last of them.
-const TOLD: [(&[u8], u64, u64); 11] = [
+pub(super) const TOLD: [(&[u8], u64, u64); 11] = [
     (b"+ 1 a 1\n", 3, 3),
     (b"+ 2 b 2 3\nw 3\n", 4, 5),
     (b"+ 3 # 3\nw 1\n", 6, 7),

@@ -56,7 +56,9 @@ impl<'p> Pair<'p> {
         ensures { IfOk result
             (λ _. Demands self.new.projector self.new.machine.position self.new.buffer self.new.tokens.items) }
     {
-        let acted = self.machine.act(alloc, &mut self.buffer, out)?;
+        let acted = self
+            .machine
+            .act::<SlabNodes<Row>, Plain>(alloc, &mut self.buffer, out)?;
         note_gone(&mut self.buffer, gone)?;
         Ok(acted)
     }

@@ -2,7 +2,8 @@
 ghost use Rattle.std.specs.Prelude.{◌≡◌, ◌<◌, false, length, None, IfOk, OnOk};
 ghost use Rattle.gcx_model.specs.Tree.{Tree};
 ghost use Rattle.many_run.specs.Each.{OfEach};
-ghost use Rattle.many_run.specs.Many.{IsOfCore, ManyStandSome};
+ghost use Rattle.run_part.specs.Part.{IsOfCore};
+ghost use Rattle.many_run.specs.Many.{ManyStandSome};
 
 use super::plan_of;
 use buf_tree::Row;

@@ -100,7 +100,7 @@ fn act(
     requires { (past : Past) × (k : ℕ) × Beside machine.old.position buffer.old past k }
     ensures { IfOk result (λ _. (past : Past) × (k : ℕ) × Beside machine.new.position buffer.new past k) }
 {
-    Ok(machine.act(alloc, buffer, out)?)
+    Ok(machine.act::<SlabNodes<Row>, Plain>(alloc, buffer, out)?)
 }
 
 pub(super) const COPIES: &[u8] = b"<r>{for $x in /a/b return $x}</r>";

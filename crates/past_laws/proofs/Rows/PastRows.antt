@@ -2,8 +2,8 @@
 use Rattle.std.specs.Prelude.{◌≡◌, ℕ, Bool, true, List, [], ◌∷◌, Option, Some, None, refl, codes, take}
 use Rattle.gcx_base.specs.declared.kind.Kind.{Kind}
 use Rattle.gcx_base.specs.declared.kind.Kind.TheVariants.{Document, Element}
-use Rattle.gcx_model.specs.Tree.{Token, Start, Chars, End}
-use Rattle.gcx_model.specs.Core.{PlanTree, RoleKind, First, Whole}
+use Rattle.gcx_model.specs.Tree.{TreeToken, Start, Chars, End}
+use Rattle.gcx_model.specs.Core.{PlanTree, RoleTarget, First, Whole}
 use Rattle.gcx_model.specs.Placed.{plan_of}
 use Rattle.gcx_model.specs.Points.{so_far}
 use Rattle.gcx_model.specs.Normal.{normal}
@@ -14,11 +14,11 @@ abbrev row : ℕ → Option ℕ → Kind → Bool → List ℕ → List ℕ → 
 row serial parent kind is_open roles signed = record { serial = serial; parent = parent; kind = kind; is_open = is_open; roles = roles; signed = signed }
 
 -- the statement of role 3, of the variable 2 over its children k, at this level
-abbrev waits_at : ℕ → RoleKind → Awaited
+abbrev waits_at : ℕ → RoleTarget → Awaited
 waits_at level kind = record { level = level; off = record { base = 2; own = 2; role = 3; rel = []; tail = child (codes "k") ∷ []; kind = kind } }
 
 -- behind this many tokens, with so many actions taken, none of them before the last token
-abbrev state : PlanTree → List Token → (tokens acts : ℕ) → Past
+abbrev state : PlanTree → List TreeToken → (tokens acts : ℕ) → Past
 state plan ts tokens acts = record { plan = plan; tree = tree (take tokens ts); acts = so_far plan (tree (take tokens ts)) acts; fed = 0 }
 
 -- the document node and the r stay as they are

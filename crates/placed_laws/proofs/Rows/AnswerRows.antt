@@ -4,7 +4,7 @@ use Rattle.gcx_base.specs.declared.rel.Rel.TheVariants.{Lt}
 use Rattle.gcx_model.specs.declared.query.QOperand.TheVariants as operand
 use Rattle.gcx_model.specs.Document.{Nodes, none, element, text}
 use Rattle.gcx_model.specs.Values.{number}
-use Rattle.gcx_model.specs.Query.{ExprTree, Exists, Compare, Not, All, no_cond, more_conds, Elem, Path, For}
+use Rattle.gcx_model.specs.Query.{ExprTree, QueryExists, QueryCompare, QueryNot, QueryAll, no_query_cond, more_query_conds, Elem, QueryPath, QueryFor}
 use Rattle.gcx_model.specs.Answer.{answer}
 use Rattle.gcx_model.specs.Sound.{is_sound}
 use Rattle.placed_laws.proofs.Rows.Words.{child, from_root, from, clause, one_expr, query_children, query_nested, query_exists, query_literal, query_join}
@@ -36,9 +36,9 @@ join_of_two = refl
 
 -- for $b in /bib/book where $b/price < 50 and not(exists($b/editor)) return <cheap>{$b/title}</cheap>
 abbrev query_books : List ExprTree
-query_books = Elem (codes "out") (one_expr (For (clause (codes "b") (from_root (child (codes "bib") ∷ child (codes "book") ∷ [])) ∷ [])
-    (Some (All (more_conds (Compare (operand.Path (from (codes "b") (child (codes "price") ∷ []))) Lt (operand.Num (pos (50 * 10 ^ 18)))) (more_conds (Not (Exists (from (codes "b") (child (codes "editor") ∷ [])))) no_cond))))
-    (Elem (codes "cheap") (one_expr (Path (from (codes "b") (child (codes "title") ∷ []))))))) ∷ []
+query_books = Elem (codes "out") (one_expr (QueryFor (clause (codes "b") (from_root (child (codes "bib") ∷ child (codes "book") ∷ [])) ∷ [])
+    (Some (QueryAll (more_query_conds (QueryCompare (operand.Path (from (codes "b") (child (codes "price") ∷ []))) Lt (operand.Num (pos (50 * 10 ^ 18)))) (more_query_conds (QueryNot (QueryExists (from (codes "b") (child (codes "editor") ∷ [])))) no_query_cond))))
+    (Elem (codes "cheap") (one_expr (QueryPath (from (codes "b") (child (codes "title") ∷ []))))))) ∷ []
 
 abbrev book : Nodes → List ℕ → List ℕ → Nodes
 book before title price = element before (codes "book") (leaf (leaf none (codes "title") title) (codes "price") price)

@@ -84,7 +84,7 @@ plan_moved = refl
 
 -- for $x in /r return for $y in $x/p return if (exists($y/k)) then $x else $y: the condition's roles, then those of the first branch, then those of the other
 abbrev query_branches : List ExprTree
-query_branches = for_in (codes "x") (from_root (r ∷ [])) (for_in (codes "y") (from (codes "x") (child (codes "p") ∷ [])) (query.If (query.Exists (from (codes "y") (k ∷ []))) (query.Path (from (codes "x") [])) (query.Path (from (codes "y") [])))) ∷ []
+query_branches = for_in (codes "x") (from_root (r ∷ [])) (for_in (codes "y") (from (codes "x") (child (codes "p") ∷ [])) (query.QueryIf (query.QueryExists (from (codes "y") (k ∷ []))) (query.QueryPath (from (codes "x") [])) (query.QueryPath (from (codes "y") [])))) ∷ []
 
 roles_of_branches : (plan_of (normal query_branches)).roles ≡ role 0 [] Own ∷ role 1 [] Own ∷ role 2 [] Own ∷ role 2 (k ∷ []) First ∷ role 1 [] Whole ∷ role 2 [] Whole ∷ []
 roles_of_branches = refl

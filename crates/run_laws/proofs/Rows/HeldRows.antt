@@ -1,6 +1,6 @@
 -- The held nodes behind each event of demand runs, and in states of other runs, computed.
 use Rattle.std.specs.Prelude.{◌≡◌, ℕ, List, [], ◌∷◌, ◌++◌, refl, codes, flat_map, map, length, take, drop}
-use Rattle.gcx_model.specs.Tree.{Token, Tree, serial_of, opening, grow}
+use Rattle.gcx_model.specs.Tree.{TreeToken, Tree, serial_of, opening, grow}
 use Rattle.gcx_model.specs.Core.{PlanTree}
 use Rattle.gcx_model.specs.Run.{Action, bytes_of}
 use Rattle.gcx_model.specs.Placed.{plan_of}
@@ -17,12 +17,12 @@ abbrev behind_acts : PlanTree → Tree → (A acts : List Action) → List (List
 behind_acts plan P A [] = []
 behind_acts plan P A (a ∷ acts) = serials plan P (A ++ a ∷ []) ∷ behind_acts plan P (A ++ a ∷ []) acts
 
-abbrev behind_feeds : PlanTree → List Token → Tree → List (List ℕ)
+abbrev behind_feeds : PlanTree → List TreeToken → Tree → List (List ℕ)
 behind_feeds plan [] P = []
 behind_feeds plan (t ∷ ts) P = serials plan (grow t P) (actions plan P) ∷ (behind_acts plan (grow t P) (actions plan P) (drop (length (actions plan P)) (actions plan (grow t P))) ++ behind_feeds plan ts (grow t P))
 
 -- in the opening state, and behind each token and action of the demand run
-abbrev behind_events : PlanTree → List Token → List (List ℕ)
+abbrev behind_events : PlanTree → List TreeToken → List (List ℕ)
 behind_events plan ts = serials plan opening [] ∷ (behind_acts plan opening [] (actions plan opening) ++ behind_feeds plan ts opening)
 
 abbrev pub plan_children : PlanTree
@@ -102,7 +102,7 @@ given_nested : map (roles_given (plan_of (normal query_nested)) (tree tokens_nes
 given_nested = refl
 
 -- of two matches of an exists the first has its role
-abbrev tokens_two : List Token
+abbrev tokens_two : List TreeToken
 tokens_two = document (element (codes "r") (element (codes "p") (element (codes "k") [] ++ element (codes "k") [])))
 
 given_exists : map (roles_given plan_exists (tree tokens_two)) (tree tokens_two).nodes ≡ (0 ∷ []) ∷ (1 ∷ []) ∷ (2 ∷ []) ∷ (3 ∷ []) ∷ [] ∷ []

@@ -3,7 +3,7 @@ use Rattle.std.specs.Prelude.{◌≡◌, ℕ, List, [], ◌∷◌, ◌++◌, ref
 use Rattle.std.specs.Fmt.{digits}
 use Rattle.gcx_base.specs.declared.steps.Axis.TheVariants.{Descendant}
 use Rattle.gcx_base.specs.declared.steps.Test.TheVariants.{AnyText}
-use Rattle.gcx_model.specs.Tree.{Token, opening}
+use Rattle.gcx_model.specs.Tree.{TreeToken, opening}
 use Rattle.gcx_model.specs.Query.{ExprTree, Empty}
 use Rattle.gcx_model.specs.Core.{PlanTree}
 use Rattle.gcx_model.specs.Placed.{plan_of}
@@ -44,7 +44,7 @@ unfolding digits
 trace_compared = refl
 
 -- a node that two bases reach keeps its role until both are signed, and so do the nodes above it
-abbrev pub tokens_nested : List Token
+abbrev pub tokens_nested : List TreeToken
 tokens_nested = document (element (codes "a") (element (codes "a") (element (codes "b") [])))
 
 trace_nested : trace_text query_nested (tree tokens_nested) ≡ lines (
@@ -94,7 +94,7 @@ taken_moved = refl
 abbrev query_text : List ExprTree
 query_text = for_in (codes "x") (from_root (record { axis = Descendant; test = AnyText } ∷ [])) Empty ∷ []
 
-abbrev tokens_text : List Token
+abbrev tokens_text : List TreeToken
 tokens_text = document (leaf (codes "a") (codes "t"))
 
 trace_text_role : trace_text query_text (tree tokens_text) ≡ lines (

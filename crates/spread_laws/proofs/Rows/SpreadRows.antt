@@ -1,7 +1,7 @@
 -- What is kept of the roles of whole subtrees, computed.
 use Rattle.std.specs.Prelude.{◌≡◌, ℕ, zero, suc, List, [], ◌∷◌, map, length, sum, refl, codes, take}
-use Rattle.gcx_model.specs.Tree.{Token, Start, End}
-use Rattle.gcx_model.specs.Query.{ExprTree, Path}
+use Rattle.gcx_model.specs.Tree.{TreeToken, Start, End}
+use Rattle.gcx_model.specs.Query.{ExprTree, QueryPath}
 use Rattle.gcx_model.specs.Placed.{plan_of}
 use Rattle.gcx_model.specs.Points.{actions}
 use Rattle.gcx_model.specs.Normal.{normal}
@@ -11,7 +11,7 @@ use Rattle.placed_laws.proofs.Rows.Words.{child, from_root, tree, query_children
 use Rattle.spread_laws.specs.Tops.{roles_kept, entries_of}
 
 -- behind these tokens, with all actions taken
-abbrev state : List ExprTree → List Token → Past
+abbrev state : List ExprTree → List TreeToken → Past
 state q ts = record { plan = plan_of (normal q); tree = tree ts; acts = actions (plan_of (normal q)) (tree ts); fed = 0 }
 
 abbrev live_entries : Past → ℕ
@@ -31,12 +31,12 @@ text_live : live_entries first_text ≡ 5
 text_live = refl
 
 -- a copy of /a, where all below it has the role of the copy from it
-abbrev twigs : ℕ → List Token
+abbrev twigs : ℕ → List TreeToken
 twigs zero = []
 twigs (suc k) = Start (codes "b") ∷ End ∷ twigs k
 
 abbrev copied : ℕ → Past
-copied k = state (Path (from_root (child (codes "a") ∷ [])) ∷ []) (Start (codes "a") ∷ twigs k)
+copied k = state (QueryPath (from_root (child (codes "a") ∷ [])) ∷ []) (Start (codes "a") ∷ twigs k)
 
 copied_entries : entries_of (copied 100) ≡ 3
 copied_entries = refl

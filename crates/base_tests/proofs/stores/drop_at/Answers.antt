@@ -1,7 +1,7 @@
 use Rattle.std.proofs.Common.{◌≡◌, false, List, [], ◌∷◌, Option, Some, None, is_some, refl, sym, ◌∙◌, rules}
 use Rattle.std.specs.Prelude.{IsSome, ℕ, option_map}
 use Rattle.node_store.specs.declared.store.Place.{Place}
-use Rattle.node_store.specs.Rows.{Entry, children_in, head_of}
+use Rattle.node_store.specs.Rows.{StoreRow, children_in, head_of}
 use Rattle.base_tests.proofs.stores.drop_at.Goals as goal
 
 no_place : (o : Option Place) → is_some o ≡ false → option_map (λ p. p.0) o ≡ None
@@ -12,7 +12,7 @@ no_child : (xs : List ℕ) → head_of xs ≡ None → xs ≡ []
 no_child [] h = refl
 no_child (x ∷ xs) h = absurd (cc)
 
-leaf : {X : Type 0} (o : Option (Entry X)) → IsSome o → head_of (children_in o) ≡ None → (e : Entry X) × (o ≡ Some e) × (e.children ≡ [])
+leaf : {X : Type 0} (o : Option (StoreRow X)) → IsSome o → head_of (children_in o) ≡ None → (e : StoreRow X) × (o ≡ Some e) × (e.children ≡ [])
 leaf None s h = absurd (cc)
 leaf (Some e) s h = (e, refl, no_child e.children h)
 

@@ -3,7 +3,7 @@ use Rattle.std.proofs.lemmas.List.{take-append-drop}
 use Rattle.std.proofs.lemmas.Str.{IsUtf8-take}
 use Rattle.std.proofs.lemmas.Bool.{not-false}
 use Rattle.gcx_model.specs.Attributes.{is_fresh}
-use Rattle.doc_laws.specs.Machine.{Mode, InValue}
+use Rattle.doc_laws.specs.Machine.{MachineMode, InValue}
 use Rattle.doc_machine.specs.Machine.{scan_state, quote_of}
 use Rattle.doc_machine.specs.Sound.{IsSoundIn}
 use Rattle.doc_parts.proofs.Texts.{moves_none}
@@ -29,7 +29,7 @@ returns-clause-moves c =
     let found = c.in-Some.ensures in
     let some : 0 < n = omega arith in
     let boundary = c.name_front-n.ensures.boundary in
-    let run : s.run ≡ [] = subst (λ (m : Mode). IsSoundIn m s) c.requires.mode c.requires.sound in
+    let run : s.run ≡ [] = subst (λ (m : MachineMode). IsSoundIn m s) c.requires.mode c.requires.sound in
     let name_is : c.as_bytes-name.result.now ≡ name = c.as_bytes-name.ensures.value ∙ c.split_at.ensures.front in
     let tail : drop n rest ≡ 61 ∷ (quote_of q ∷ found.0) = sym (c.as_bytes.ensures.value ∙ c.split_at.ensures.back) ∙ found.1 in
     let parts : rest ≡ name ++ (61 ∷ (quote_of q ∷ found.0)) = sym (take-append-drop n rest) ∙ ap (λ l. name ++ l) tail in

@@ -1,6 +1,6 @@
 use Rattle.std.proofs.Common.{◌≡◌, ◌++◌, List, length, map, ap, ◌∙◌, subst, arith, OnOk}
 use Rattle.std.proofs.lemmas.List.{drop_all}
-use Rattle.gcx_model.specs.Tree.{Token as Said}
+use Rattle.gcx_model.specs.Tree.{TreeToken as Said}
 use Rattle.doc_tokens.specs.Given.{given_token}
 use Rattle.doc_reader.specs.Standing.{with_tokens}
 use Rattle.doc_reader.proofs.Owning.{as_many}

@@ -7,7 +7,7 @@ use Rattle.gcx_io.proofs.Written.{joined_push}
 use Rattle.gcx_model.specs.PlanView.{plan_tree}
 use Rattle.run_words.proofs.Sourcing.{on_clean, on_piece, source_end, source_fault, source_more}
 use Rattle.run_words.specs.Ends.{AtEnd, LastPiece}
-use Rattle.run_words.specs.Stops.{More, End}
+use Rattle.run_words.specs.Stops.{More, EndAnswered}
 use Rattle.doc_reader.specs.Standing.{Answers}
 use Rattle.engine.specs.declared.report.Ended.TheVariants as ended
 use Rattle.engine.specs.Engine.{IsSilent, Kept, Lost, OnAnswer, StandsOf, TraceGrewBy, TraceGrewWithin}
@@ -72,8 +72,8 @@ returns-then-n-eq0-clause-goes g c = λ lim t left before h.
     let silent : is_traced t ≡ false → IsSilent f = λ isnt. c.finish-answer.ensures.same.silent (tells_silent t d tells isnt) in
     call_ends g.C.Conds.stands lim t e d left _ before _ _ h rest wrote
     (λ isnt. ap g.E.Sink.seen (c.write_waiting.ensures.silent (tells_silent t e h.tells isnt)).1) empty
-    (g.D.Source.seen c.read.new.self) _ f c.end_with.new.engine [] h.pieces End r c.end_with.result tt
-    (source_end _ _ _ h.pieces _ _ h.gave c.in-Ok.ensures.reads c.if-n-eq0.true size) (on_clean lim h.pieces End h.clean) n
+    (g.D.Source.seen c.read.new.self) _ f c.end_with.new.engine [] h.pieces EndAnswered r c.end_with.result tt
+    (source_end _ _ _ h.pieces _ _ h.gave c.in-Ok.ensures.reads c.if-n-eq0.true size) (on_clean lim h.pieces EndAnswered h.clean) n
     (λ S text is. AtEnd refl is)
     (subst (λ (z : List ℕ). OnAnswer r (Lost lim d f b false z true) (Kept g.C.Conds.stands lim d f b false z true)) n (c.finish-answer.ensures.ended lim b false s fresh))
     (λ is. subst (λ (z : List ℕ). OnAnswer r (TraceGrewWithin (plan_tree d.plan) lim b false (b ++ []) true z f.trace) (TraceGrewBy (plan_tree d.plan) lim b false (b ++ []) true z f.trace)) empty.1
@@ -128,7 +128,7 @@ returns-in-Ok-feed-clause-goes g c = λ lim t left before h.
     call_goes g.C.Conds.stands lim t e d left _ before _ _ h rest wrote
     (λ isnt. ap g.E.Sink.seen (c.write_waiting.ensures.silent (tells_silent t e h.tells isnt)).1) empty
     (g.D.Source.seen c.read.new.self) f piece (source_more _ _ _ h.pieces _ _ h.gave c.in-Ok.ensures.reads some fits size) short c.feed.ensures.same.plan none
-    (tells_on t d f tells c.feed.ensures.same.tracing c.feed.ensures.same.ahead c.feed.ensures.same.silent) (c.in-Ok-feed.ensures.fed lim b s fresh)
+    (tells_on t d f tells c.feed.ensures.same.tracing c.feed.ensures.same.silent) (c.in-Ok-feed.ensures.fed lim b s fresh)
     (λ is. subst (λ (z : List ℕ). TraceGrewBy (plan_tree d.plan) lim b false (b ++ piece) false z f.trace) empty.1
     (c.in-Ok-feed.ensures.traced lim b s fresh (tells_told t d tells is)))
 

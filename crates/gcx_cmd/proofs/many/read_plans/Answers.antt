@@ -6,7 +6,7 @@ use Rattle.gcx_model.specs.Query.{query_trees}
 use Rattle.gcx_model.specs.declared.plan.Plan.{Plan}
 use Rattle.gcx_words.specs.declared.pairs.Pair.{Pair}
 use Rattle.many_run.proofs.Lists.{each_push}
-use Rattle.many_run.specs.Many.{IsOfCore}
+use Rattle.run_part.specs.Part.{IsOfCore}
 use Rattle.gcx_cmd.proofs.Manies.{accepts_plans_none, accepts_plans_on, cause_among, each_none, opened_more, queries_count, split_pairs, stops_at_query, stops_between}
 use Rattle.gcx_cmd.proofs.ManyKept.{kept_none, kept_on, kept_shelf}
 use Rattle.gcx_cmd.specs.ManyDoes.{AcceptsPlans, StopsInQueries}

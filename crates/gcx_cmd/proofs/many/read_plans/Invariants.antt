@@ -1,6 +1,6 @@
 use Rattle.std.proofs.Common.{ℕ, List, take}
 use Rattle.many_run.specs.Each.{OfEach}
-use Rattle.many_run.specs.Many.{IsOfCore}
+use Rattle.run_part.specs.Part.{IsOfCore}
 use Rattle.gcx_cmd.specs.ManyDoes.{AcceptsPlans, ManyKeeps}
 use Rattle.gcx_cmd.proofs.many.read_plans.Given as goal
 

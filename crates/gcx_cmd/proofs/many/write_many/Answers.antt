@@ -2,7 +2,7 @@ use Rattle.std.proofs.Common.{◌∙◌, List, length, ap, map, sym, subst}
 use Rattle.std.specs.declared.result.Result.TheVariants.{Err}
 use Rattle.gcx_model.specs.declared.plan.Plan.{Plan}
 use Rattle.many_run.specs.Each.{OfEach}
-use Rattle.many_run.specs.Many.{IsOfCore}
+use Rattle.run_part.specs.Part.{IsOfCore}
 use Rattle.gcx_cmd.proofs.ManyDone.{done_refused, done_run}
 use Rattle.gcx_cmd.specs.ManyDoes.{AcceptsPlans}
 use Rattle.gcx_cmd.proofs.many.write_many.Goals as goal

@@ -9,7 +9,7 @@ use Rattle.gcx_cmd.proofs.Attached.{unattached, unattached_cause, unattached_kee
 use Rattle.gcx_cmd.proofs.DocRuns.{ended_fault}
 use Rattle.gcx_cmd.proofs.FileRead.{faults_seen, file_read}
 use Rattle.gcx_cmd.proofs.Measures.{measures_ok, measures_stop, ended_ok}
-use Rattle.gcx_cmd.specs.Outside.{StoreView}
+use Rattle.gcx_cmd.specs.World.{StoreView}
 use Rattle.gcx_cmd.specs.Reads.{KeepsShelf}
 use Rattle.gcx_cmd.specs.Runs.{DocumentMeasures, stored}
 use Rattle.gcx_cmd.specs.Status.{ended_status}

@@ -5,7 +5,7 @@ use Rattle.gcx_io.specs.Views.{ShelfView}
 use Rattle.gcx_cmd.proofs.Attached.{unattached, unattached_cause, unattached_keeps, unattached_memory}
 use Rattle.gcx_cmd.proofs.DocRuns.{document_runs, ended_fault}
 use Rattle.gcx_cmd.proofs.FileRead.{faults_seen, file_read}
-use Rattle.gcx_cmd.specs.Outside.{outside}
+use Rattle.gcx_cmd.specs.World.{world}
 use Rattle.gcx_cmd.specs.ReadEnd.{attach_status}
 use Rattle.gcx_cmd.specs.Reads.{KeepsShelf}
 use Rattle.gcx_cmd.specs.Runs.{DocumentRuns}
@@ -15,9 +15,9 @@ use Rattle.gcx_cmd.proofs.running.run_document.Goals as goal
 pub returns-in-Err-clause-runs : goal.returns-in-Err-clause-runs
 returns-in-Err-clause-runs g c = λ q is.
     let runs : DocumentRuns c.args.tracing c.args.ahead q c.args.name.now (attach_status c.in-Err.fault)
-    (outside (g.F.Shelf.seen c.args.files.now) (g.O.Sink.seen c.args.out.now) (g.E.Sink.seen c.args.err.now) (g.N.NodeStore.rows c.args.nodes.now) (g.N.NodeStore.most_held c.args.nodes.now)) (outside (g.F.Shelf.seen c.attach.new.self) (g.O.Sink.seen c.args.out.now) (g.E.Sink.seen c.args.err.now) (g.N.NodeStore.rows c.args.nodes.now) (g.N.NodeStore.most_held c.args.nodes.now)) =
+    (world (g.F.Shelf.seen c.args.files.now) (g.O.Sink.seen c.args.out.now) (g.E.Sink.seen c.args.err.now) (g.N.NodeStore.rows c.args.nodes.now) (g.N.NodeStore.most_held c.args.nodes.now)) (world (g.F.Shelf.seen c.attach.new.self) (g.O.Sink.seen c.args.out.now) (g.E.Sink.seen c.args.err.now) (g.N.NodeStore.rows c.args.nodes.now) (g.N.NodeStore.most_held c.args.nodes.now)) =
     unattached _ _ _ (λ s. DocumentRuns c.args.tracing c.args.ahead q c.args.name.now s
-    (outside (g.F.Shelf.seen c.args.files.now) (g.O.Sink.seen c.args.out.now) (g.E.Sink.seen c.args.err.now) (g.N.NodeStore.rows c.args.nodes.now) (g.N.NodeStore.most_held c.args.nodes.now)) (outside (g.F.Shelf.seen c.attach.new.self) (g.O.Sink.seen c.args.out.now) (g.E.Sink.seen c.args.err.now) (g.N.NodeStore.rows c.args.nodes.now) (g.N.NodeStore.most_held c.args.nodes.now))) c.in-Err.fault c.in-Err.ensures.attaches
+    (world (g.F.Shelf.seen c.args.files.now) (g.O.Sink.seen c.args.out.now) (g.E.Sink.seen c.args.err.now) (g.N.NodeStore.rows c.args.nodes.now) (g.N.NodeStore.most_held c.args.nodes.now)) (world (g.F.Shelf.seen c.attach.new.self) (g.O.Sink.seen c.args.out.now) (g.E.Sink.seen c.args.err.now) (g.N.NodeStore.rows c.args.nodes.now) (g.N.NodeStore.most_held c.args.nodes.now))) c.in-Err.fault c.in-Err.ensures.attaches
     (λ gone. inl (record { out = refl; err = refl; store = refl }, gone)) (λ none. inl (record { out = refl; err = refl; store = refl }, none)) in
     rw c.from.ensures runs
 
@@ -42,8 +42,8 @@ returns-clause-runs g c = λ q is.
     g.met.F.Shelf.sees g.met.F.Shelf.counts g.met.F.Shelf.lefts c.args.name.now a c.attach.new.self c.new-source.result.files.now n _ _ _
     c.in-Ok.ensures.attaches.0 c.in-Ok.ensures.attaches.1 c.new-source.ensures.same (search rules) c.run_plan-report.ensures.kept.1 c.run_plan-report.ensures.kept.2 in
     let runs : DocumentRuns c.args.tracing c.args.ahead q c.args.name.now (ended_status c.run_plan-report.result.ended)
-    (outside a (g.O.Sink.seen c.args.out.now) (g.E.Sink.seen c.args.err.now) (g.N.NodeStore.rows c.args.nodes.now) (g.N.NodeStore.most_held c.args.nodes.now))
-    (outside (g.F.Shelf.seen n) (g.O.Sink.seen c.run_plan-report.new.out) (g.E.Sink.seen c.run_plan-report.new.err) (g.N.NodeStore.rows c.run_plan-report.new.nodes)
+    (world a (g.O.Sink.seen c.args.out.now) (g.E.Sink.seen c.args.err.now) (g.N.NodeStore.rows c.args.nodes.now) (g.N.NodeStore.most_held c.args.nodes.now))
+    (world (g.F.Shelf.seen n) (g.O.Sink.seen c.run_plan-report.new.out) (g.E.Sink.seen c.run_plan-report.new.err) (g.N.NodeStore.rows c.run_plan-report.new.nodes)
     (g.N.NodeStore.most_held c.run_plan-report.new.nodes)) =
     document_runs c.args.tracing c.args.ahead q c.args.name.now _ _ _ _ f c.run_plan-report.result (c.run_plan-report.ensures.runs q is) in
     let back : c.files-1.given.0 ≡ n = search rules in

@@ -28,7 +28,7 @@ returns-clause-runs g c = λ q is.
     let e = c.run_query-report.new.engine in
     let same = c.run_query-report.ensures.same.plan ∙ c.in-Ok-new.ensures.plan in
     let starts : Starts IsIndex full_limits c.in-Ok-new.engine = subst (λ (l : Limits). Starts IsIndex l c.in-Ok-new.engine) c.full-limits.ensures c.in-Ok-new.ensures.starts in
-    let tells : TellsBy (telling c.args.tracing) c.in-Ok-new.engine = tells_by c.args.tracing c.in-Ok-new.engine c.in-Ok-new.ensures.tracing (λ told. c.in-Ok-new.ensures.ahead ∙ c.requires.ahead.2 told) c.in-Ok-new.ensures.silent in
+    let tells : TellsBy (telling c.args.tracing) c.in-Ok-new.engine = tells_by c.args.tracing c.in-Ok-new.engine c.in-Ok-new.ensures.tracing c.in-Ok-new.ensures.silent in
     let ran = c.run_query-report.ensures.ran full_limits (telling c.args.tracing) starts tells in
     let fresh : MostIs 0 c.in-Ok-new.engine = subst (λ (n : ℕ). MostIs n c.in-Ok-new.engine) c.requires.new.1 c.in-Ok-new.ensures.most in
     let of_plan : IsPlanOf q (plan_tree e.plan) = subst (λ p. IsPlanOf q (plan_tree p)) (sym same) is in
@@ -44,7 +44,7 @@ returns-clause-emptied g c = λ ok.
     let e = c.run_query-report.new.engine in
     let same = c.run_query-report.ensures.same.plan ∙ c.in-Ok-new.ensures.plan in
     let starts : Starts IsIndex full_limits c.in-Ok-new.engine = subst (λ (l : Limits). Starts IsIndex l c.in-Ok-new.engine) c.full-limits.ensures c.in-Ok-new.ensures.starts in
-    let tells : TellsBy (telling c.args.tracing) c.in-Ok-new.engine = tells_by c.args.tracing c.in-Ok-new.engine c.in-Ok-new.ensures.tracing (λ told. c.in-Ok-new.ensures.ahead ∙ c.requires.ahead.2 told) c.in-Ok-new.ensures.silent in
+    let tells : TellsBy (telling c.args.tracing) c.in-Ok-new.engine = tells_by c.args.tracing c.in-Ok-new.engine c.in-Ok-new.ensures.tracing c.in-Ok-new.ensures.silent in
     let ran = c.run_query-report.ensures.ran full_limits (telling c.args.tracing) starts tells in
     let placed : IsPlaced (plan_tree e.plan) = subst (λ p. IsPlaced (plan_tree p)) (sym same) c.requires.placed in
     let none : g.N.NodeStore.rows c.finish_nodes.result.now ≡ map.empty =
@@ -56,14 +56,14 @@ pub returns-clause-memory : goal.returns-clause-memory
 returns-clause-memory g c =
     let e = c.run_query-report.new.engine in
     let starts : Starts IsIndex full_limits c.in-Ok-new.engine = subst (λ (l : Limits). Starts IsIndex l c.in-Ok-new.engine) c.full-limits.ensures c.in-Ok-new.ensures.starts in
-    let tells : TellsBy (telling c.args.tracing) c.in-Ok-new.engine = tells_by c.args.tracing c.in-Ok-new.engine c.in-Ok-new.ensures.tracing (λ told. c.in-Ok-new.ensures.ahead ∙ c.requires.ahead.2 told) c.in-Ok-new.ensures.silent in
+    let tells : TellsBy (telling c.args.tracing) c.in-Ok-new.engine = tells_by c.args.tracing c.in-Ok-new.engine c.in-Ok-new.ensures.tracing c.in-Ok-new.ensures.silent in
     no_memory_by IsIndex c.args.tracing e c.run_query-report.result _ _ _ _ _ _ (c.run_query-report.ensures.ran full_limits (telling c.args.tracing) starts tells)
 
 pub returns-clause-cause : goal.returns-clause-cause
 returns-clause-cause g c = λ is.
     let e = c.run_query-report.new.engine in
     let starts : Starts IsIndex full_limits c.in-Ok-new.engine = subst (λ (l : Limits). Starts IsIndex l c.in-Ok-new.engine) c.full-limits.ensures c.in-Ok-new.ensures.starts in
-    let tells : TellsBy (telling c.args.tracing) c.in-Ok-new.engine = tells_by c.args.tracing c.in-Ok-new.engine c.in-Ok-new.ensures.tracing (λ told. c.in-Ok-new.ensures.ahead ∙ c.requires.ahead.2 told) c.in-Ok-new.ensures.silent in
+    let tells : TellsBy (telling c.args.tracing) c.in-Ok-new.engine = tells_by c.args.tracing c.in-Ok-new.engine c.in-Ok-new.ensures.tracing c.in-Ok-new.ensures.silent in
     let rose = rose_by IsIndex c.args.tracing e c.run_query-report.result _ _ _ _ _ _ (c.run_query-report.ensures.ran full_limits (telling c.args.tracing) starts tells) is in
     let before = ap (λ (v : SourceView). v.faults) (g.met.S.Source.sees c.args.source.now) in
     let after = ap (λ (v : SourceView). v.faults) (g.met.S.Source.sees c.run_query-report.new.doc) in

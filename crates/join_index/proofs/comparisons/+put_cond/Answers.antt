@@ -1,6 +1,6 @@
 use Rattle.std.proofs.Common.{◌≡◌, ap, map, sym, ◌∙◌, subst, inl, inr, arith}
 use Rattle.std.specs.Prelude.{OnOk}
-use Rattle.gcx_model.specs.Core.{All, CondTree, Not}
+use Rattle.gcx_model.specs.Core.{AllOf, CondTree, Not}
 use Rattle.gcx_model.specs.CondView.{core_cond_tree, core_conds_of}
 use Rattle.gcx_model.specs.declared.cond.Cond.{the_lemmas}
 use Rattle.cond_eval.proofs.Parts.{fold_All, fold_Any, fold_Exists}
@@ -35,7 +35,7 @@ loop-inner-preserved t c = record {
 
 pub returns-after-loop-inner-clause-all : goal.returns-after-loop-inner-clause-all
 returns-after-loop-inner-clause-all t c =
-    let members : GathersAll c.args.found.now.items c.loop-inner.found.items (λ l r. CondHas l r (All (core_conds_of (map core_cond_tree c.in-All.conds.members.items)))) =
+    let members : GathersAll c.args.found.now.items c.loop-inner.found.items (λ l r. CondHas l r (AllOf (core_conds_of (map core_cond_tree c.in-All.conds.members.items)))) =
     conds_all c.items-inner-items.result.now c.loop-inner.inner-index (map core_cond_tree c.in-All.conds.members.items) c.args.found.now.items c.loop-inner.found.items c.loop-inner-test.false c.items-inner-items.ensures.trees c.loop-inner.invariant.all in
     elim c.in-All.is [
       | inl e ↦ subst (λ (z : CondTree). GathersAll c.args.found.now.items c.loop-inner.found.items (λ l r. CondHas l r z)) (sym (ap core_cond_tree e ∙ fold_All c.in-All.conds)) members

@@ -8,7 +8,7 @@ use Rattle.gcx_io.proofs.Written.{joined_push}
 use Rattle.gcx_model.specs.declared.plan.Plan.{Plan}
 use Rattle.run_words.proofs.Sourcing.{on_clean, on_piece}
 use Rattle.run_words.specs.Ends.{AtEnd, LastPiece}
-use Rattle.run_words.specs.Stops.{End, More}
+use Rattle.run_words.specs.Stops.{EndAnswered, More}
 use Rattle.doc_reader.specs.Standing.{Answers}
 use Rattle.engine.specs.Engine.{OnAnswer}
 use Rattle.engine.specs.declared.report.Ended.TheVariants as ended
@@ -295,7 +295,7 @@ returns-then-n-eq0-clause-goes g c = λ lim begun h.
     let plans = plans_of_same f u (written_same f u c.end_with.ensures.only) ∙ (plans_of_same d f (called_same g.C.Conds.stands lim d f b false b true res call) ∙ plans_of_same e d (written_same e d only)) in
     subst (λ (y : List Plan). RanMany y lim c.end_with.result u.bytes doc outs begun z) (sym plans)
     (call_ends g.C.Conds.stands lim doc outs e d begun s k c.requires.may h only rest still wrote r (λ o other. read_sink doc.0 k r _ _ once o other) (read_rest doc.0 k r _ _ once outs) once.write_faults empty
-    z f u [] h.pieces End res c.end_with.result tt (gave_end doc.0 begun k r h.pieces gave _ _ once c.if-n-eq0.true size) (on_clean lim h.pieces End h.clean) n (λ S text is. AtEnd refl is)
+    z f u [] h.pieces EndAnswered res c.end_with.result tt (gave_end doc.0 begun k r h.pieces gave _ _ once c.if-n-eq0.true size) (on_clean lim h.pieces EndAnswered h.clean) n (λ S text is. AtEnd refl is)
     (subst (λ (y : List ℕ). OnAnswer res (ManyLost lim d f b false y true) (ManyKept g.C.Conds.stands lim d f b false y true)) n call)
     (subst (λ (y : List ℕ). Answers res lim y true) n (c.finish-answer.ensures.exact lim b false stand fresh)) (λ ok. refl) c.end_with.ensures.only
     (c.finish-answer.ensures.bytes ∙ (stand.bytes ∙ ap length n)) c.end_with.ensures.ends c.end_with.ensures.others c.end_with.ensures.reads apart)

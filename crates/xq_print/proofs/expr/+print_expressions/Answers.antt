@@ -2,7 +2,7 @@ use Rattle.std.proofs.Common.{◌≡◌, ◌++◌, string_bytes, map, arith, sym
 use Rattle.std.specs.Prelude.{codes, option_map}
 use Rattle.std.proofs.lemmas.Result.{on_ok_weaker}
 use Rattle.gcx_model.specs.declared.query.Expr.{the_lemmas}
-use Rattle.gcx_model.specs.Query.{Elem, For, If, cond_tree, expr_tree, expr_trees, exprs_of}
+use Rattle.gcx_model.specs.Query.{Elem, QueryFor, QueryIf, cond_tree, expr_tree, expr_trees, exprs_of}
 use Rattle.gcx_model.specs.Written.{end_tag}
 use Rattle.xq_print.specs.Printed.{clause_text, cond_text, expr_text, expr_texts, filter_text, joined}
 use Rattle.xq_print.proofs.Lists.{elem_put, loop_put, branch_put, parts_done}
@@ -25,7 +25,7 @@ put_expr-returns-in_ok-put_where-in-Elem-2 t c =
 
 pub put_expr-returns-in_ok-put_loop-in-For : goal.put_expr-returns-in_ok-put_loop-in-For
 put_expr-returns-in_ok-put_loop-in-For t c =
-    let tree : expr_tree c.args.expr.now ≡ For c.in-For.clauses (option_map cond_tree c.in-For.filter) (expr_tree c.deref.result.now) = grind (arith, the_lemmas) in
+    let tree : expr_tree c.args.expr.now ≡ QueryFor c.in-For.clauses (option_map cond_tree c.in-For.filter) (expr_tree c.deref.result.now) = grind (arith, the_lemmas) in
     on_ok_weaker c.put_expr.result
     (λ (put : string_bytes c.put_expr.new.out ≡ string_bytes c.put_loop.new.out ++ expr_text (expr_tree c.deref.result.now)).
     loop_put (string_bytes c.args.out.now) (string_bytes c.put_loop.new.out) (string_bytes c.put_expr.new.out) (joined (codes ", ") (map clause_text c.in-For.clauses)) (filter_text (option_map cond_tree c.in-For.filter))
@@ -35,7 +35,7 @@ put_expr-returns-in_ok-put_loop-in-For t c =
 
 pub put_expr-returns-in_ok-push_str-in-If : goal.put_expr-returns-in_ok-push_str-in-If
 put_expr-returns-in_ok-push_str-in-If t c =
-    let tree : expr_tree c.args.expr.now ≡ If (cond_tree c.in-If.cond) (expr_tree c.deref-in-If.result.now) (expr_tree c.deref-in-If-2.result.now) = grind (arith, the_lemmas) in
+    let tree : expr_tree c.args.expr.now ≡ QueryIf (cond_tree c.in-If.cond) (expr_tree c.deref-in-If.result.now) (expr_tree c.deref-in-If-2.result.now) = grind (arith, the_lemmas) in
     on_ok_weaker c.put_expr-in-If-2.result
     (λ (put : string_bytes c.put_expr-in-If-2.new.out ≡ string_bytes c.push_str-in-If.new.self ++ expr_text (expr_tree c.deref-in-If-2.result.now)).
     branch_put (string_bytes c.args.out.now) (string_bytes c.put_test.new.out) (string_bytes c.put_expr-in-If.new.out) (string_bytes c.push_str-in-If.new.self) (string_bytes c.put_expr-in-If-2.new.out)

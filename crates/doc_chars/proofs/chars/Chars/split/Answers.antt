@@ -6,6 +6,12 @@ use Rattle.doc_chars.proofs.Bytes.{front_short}
 use Rattle.doc_chars.proofs.Streams.{are_text, left_front, left_bytes, kept_count, kept_below, cut_given, goes_on, breaks}
 use Rattle.doc_chars.proofs.chars.Chars.split.Goals as goal
 
+pub returns-in-Some-clause-within : goal.returns-in-Some-clause-within
+returns-in-Some-clause-within c = (c.cut_piece-cut.ensures.in_order, c.cut_piece-cut.ensures.within)
+
+pub returns-in-None-clause-within : goal.returns-in-None-clause-within
+returns-in-None-clause-within c = (c.cut_piece-cut.ensures.in_order, c.cut_piece-cut.ensures.within)
+
 pub returns-in-Some-clause-text : goal.returns-in-Some-clause-text
 returns-in-Some-clause-text c = are_text _ c.cut_piece-cut.ensures.chars
 

@@ -2,7 +2,7 @@ use Rattle.std.proofs.Common.{ℕ, ◌≡◌, ◌-◌, ◌<◌, List, ◌++◌, 
 use Rattle.std.proofs.lemmas.Result.{err_from_is_err_and}
 use Rattle.std.proofs.lemmas.List.{take-append-drop}
 use Rattle.gcx_model.specs.declared.fault.DocFault.{DocFault}
-use Rattle.gcx_model.specs.declared.fault.DocFault.TheVariants.{TooLong}
+use Rattle.gcx_model.specs.declared.fault.DocFault.TheVariants as doc_faults
 use Rattle.doc_reader.specs.Standing.{ReaderView}
 use Rattle.doc_reader.specs.Piece.{Took}
 use Rattle.doc_reader.proofs.Pieces.{took_more, took_past}
@@ -34,6 +34,6 @@ returns-clause-took c b before r =
     let full : length (b ++ take room piece) ≡ lim.bytes = omega (arith, length-append b (take room piece), length-take room piece, count, bytes, c.if-piece-room.false, c.self.invariant.within) in
     let more : 0 < length (drop room piece) = omega (arith, length-drop room piece, c.if-piece-room.false) in
     let at : lim.bytes ≡ c.self-2.inside.limits.bytes = ap (λ l. l.bytes) (sym c.in_ok-read_piece.ensures.same.limits) ∙ sym (ap (λ (v : ReaderView). v.limits.bytes) c.self-2.view_is) in
-    subst (λ (n : ℕ). Took {T = Unit {0}} (Err (TooLong n)) new lim (b ++ piece) before) at
-    (subst (λ (l : List ℕ). Took {T = Unit {0}} (Err (TooLong lim.bytes)) new lim l before) (whole b piece room)
+    subst (λ (n : ℕ). Took {T = Unit {0}} (Err (doc_faults.TooLong n)) new lim (b ++ piece) before) at
+    (subst (λ (l : List ℕ). Took {T = Unit {0}} (Err (doc_faults.TooLong lim.bytes)) new lim l before) (whole b piece room)
     (took_past new lim (b ++ take room piece) (drop room piece) before (c.in_ok-read_piece.ensures.took b before r).0 full more))

@@ -12,6 +12,12 @@ use Rattle.doc_reader.proofs.Pieces.{took_stop, took_breaks, took_reads}
 use Rattle.doc_reader.proofs.Ties.{parts_of}
 use Rattle.doc_reader.proofs.lent_reader.LentReader.read_piece.Goals as goal
 
+pub read_split-requires-clause-in_order : goal.read_split-requires-clause-in_order
+read_split-requires-clause-in_order c = c.split-split.ensures.within.0
+
+pub read_split-requires-clause-within : goal.read_split-requires-clause-within
+read_split-requires-clause-within c = c.split-split.ensures.within.1
+
 pub invariant_of-self : goal.invariant_of-self
 invariant_of-self c =
     let a = c.self.inside in
@@ -30,7 +36,7 @@ invariant_of-self-in-None c =
     let fits : a.count + length piece ≤ a.limits.bytes = subst (λ (v : ReaderView). v.count + length piece ≤ v.limits.bytes) (sym c.self.view_is) c.requires in
     let next = in_order split.fault a.chars c.split-split.new.self split.first split.whole piece a.count a.place c.split-split.ensures.carried c.split-split.ensures.seen c.split-split.ensures.kept c.self.invariant.seen c.self.invariant.place in
     let carried = subst (λ (o : Option CharFault). IfNone o (c.split-split.new.self.bytes ≡ still_carried split.first a.chars.bytes ++ drop split.whole piece)) none c.split-split.ensures.carried in
-    let sizes = given_size split a.chars.bytes piece c.split-split.ensures.in_order c.split-split.ensures.within c.split-split.ensures.text c.split-split.ensures.first in
+    let sizes = given_size split a.chars.bytes piece c.split-split.ensures.within.0 c.split-split.ensures.within.1 c.split-split.ensures.text c.split-split.ensures.first in
     record { most = c.self.invariant.most; within = fits; seen = next.0; place = omega (arith, c.in_ok-place.ensures.0, sizes, ap length carried, c.self.invariant.place) }
 
 pub returns-in_err-place-clause-took : goal.returns-in_err-place-clause-took

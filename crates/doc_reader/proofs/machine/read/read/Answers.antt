@@ -1,7 +1,7 @@
 use Rattle.std.proofs.Common.{sym, ap, ◌∙◌, subst, drop, length, List, ℕ, ◌+◌, ◌-◌}
 use Rattle.std.proofs.lemmas.Result.{err_from_is_err_and}
 use Rattle.doc_machine.specs.Machine.{scan_state}
-use Rattle.doc_parts.specs.Reading.{IsFirst}
+use Rattle.doc_parts.specs.Reading.{IsFirstChar}
 use Rattle.doc_parts.proofs.Texts.{rest_all}
 use Rattle.doc_parts.proofs.Wholes.{first_all}
 use Rattle.doc_reader.proofs.Reading.{reached_stops, reached_moves, reached_first, reached_stop, reached_all}
@@ -15,7 +15,7 @@ returns-in_err-judge-in-Some-clause-judged c =
     let text = c.args.text.now in
     let now = scan_state c.read_front.new.m in
     let r = reached_moves lim c.args.place old text c.loop-n.at (scan_state c.loop-n.m) now c.loop-n.rest.now c.in_ok-n.n c.loop-n.invariant.2 c.in_ok-n.ensures.moves in
-    let behind = subst (λ (l : List ℕ). IsFirst c.in-Some.c c.in-Some.after.now l) c.split_at.ensures.back c.in-Some.ensures in
+    let behind = subst (λ (l : List ℕ). IsFirstChar c.in-Some.c c.in-Some.after.now l) c.split_at.ensures.back c.in-Some.ensures in
     rw (p.1, p.2) (reached_stop lim c.args.place old text (c.loop-n.at + c.in_ok-n.n) now (scan_state c.judge.new.m) c.in-Some.c (drop c.in_ok-n.n c.loop-n.rest.now) c.in-Some.after.now c.in_err-judge-in-Some.field-0.0 r behind c.in_err-judge-in-Some.ensures)
 
 pub loop-n-preserved : goal.loop-n-preserved
@@ -25,7 +25,7 @@ loop-n-preserved c =
     let text = c.args.text.now in
     let now = scan_state c.read_front.new.m in
     let r = reached_moves lim c.args.place old text c.loop-n.at (scan_state c.loop-n.m) now c.loop-n.rest.now c.in_ok-n.n c.loop-n.invariant.2 c.in_ok-n.ensures.moves in
-    let behind = subst (λ (l : List ℕ). IsFirst c.in-Some.c c.in-Some.after.now l) c.split_at.ensures.back c.in-Some.ensures in
+    let behind = subst (λ (l : List ℕ). IsFirstChar c.in-Some.c c.in-Some.after.now l) c.split_at.ensures.back c.in-Some.ensures in
     let at = c.loop-n.at + c.in_ok-n.n in
     (behind.utf8, first_all c.in-Some.c c.in-Some.after.now (drop c.in_ok-n.n c.loop-n.rest.now) (rest_all c.loop-n.rest.now c.in_ok-n.n c.loop-n.invariant.1 c.in_ok-n.ensures.moves.boundary) behind, reached_first lim c.args.place old text at (at + (length c.split_at.result.1.now - length c.in-Some.after.now)) now (scan_state c.judge.new.m) c.in-Some.c (drop c.in_ok-n.n c.loop-n.rest.now) c.in-Some.after.now r behind c.in_ok-judge-in-Some.ensures (ap (λ (l : List ℕ). at + (length l - length c.in-Some.after.now)) c.split_at.ensures.back))
 

@@ -1,5 +1,5 @@
 use Rattle.std.proofs.Common.{rules, ap, sym, subst, inl, ◌∙◌, ◌≤◌, ◌<◌, ◌+◌, List, length, drop, map, take, arith}
-use Rattle.gcx_model.specs.Tree.{Token}
+use Rattle.gcx_model.specs.Tree.{TreeToken}
 use Rattle.doc_tokens.specs.Parts.{lent_token}
 use Rattle.doc_tokens.specs.Tokens.{Queue}
 use Rattle.doc_tokens.proofs.Keeping.{few_left, tokens_left, all_left, queue_by}
@@ -8,7 +8,7 @@ use Rattle.doc_tokens.proofs.tokens.Tokens.take.Goals as goal
 pub overflow_add-taken : goal.overflow_add-taken
 overflow_add-taken c =
     let s = c.self.inside in
-    let few = subst (λ (ts : List Token). c.args.count ≤ length ts) (sym (ap (λ (q : Queue). q.tokens) c.self.view_is)) c.requires in
+    let few = subst (λ (ts : List TreeToken). c.args.count ≤ length ts) (sym (ap (λ (q : Queue). q.tokens) c.self.view_is)) c.requires in
     let left = few_left s.bytes.items s.lent.items s.taken s.whole c.args.count c.self.invariant.enough c.self.invariant.few few in
     omega (arith, left, c.self.ranges)
 
@@ -45,4 +45,4 @@ returns-else-taken-self c =
     let s = c.self.inside in
     let q = c.args.self.now in
     let all : s.whole ≤ s.taken + c.args.count = search (rules, arith) in
-    c.settle.ensures ∙ ap (λ (ts : List Token). record q { tokens = ts }) (sym (all_left s.bytes.items s.lent.items s.start s.taken s.whole c.args.count q c.self.invariant.enough all c.self.view_is))
+    c.settle.ensures ∙ ap (λ (ts : List TreeToken). record q { tokens = ts }) (sym (all_left s.bytes.items s.lent.items s.start s.taken s.whole c.args.count q c.self.invariant.enough all c.self.view_is))

@@ -1,11 +1,11 @@
 use Rattle.std.proofs.Common.{◌≡◌, length, rules, inl, inr, sym, ◌∙◌, ap, arith}
-use Rattle.gcx_model.specs.Tree.{grow, Tree, Token, End}
+use Rattle.gcx_model.specs.Tree.{grow, Tree, TreeToken, End}
 use Rattle.doc_reader.specs.Standing.{said_of}
 use Rattle.doc_tree.specs.Rows.{parent_of}
 use Rattle.doc_tree.proofs.Taking.{started, texted, lent, ended}
 use Rattle.doc_tree.proofs.tree.Tree.take.Goals as goal
 
-grown : (T : Tree) (P Q : Tree) (t u : Token) → T ≡ grow u P → P ≡ Q → t ≡ u → T ≡ grow t Q
+grown : (T : Tree) (P Q : Tree) (t u : TreeToken) → T ≡ grow u P → P ≡ Q → t ≡ u → T ≡ grow t Q
 grown T P Q t u e f g = e ∙ (ap (grow u) f ∙ ap (λ x. grow x Q) (sym g))
 
 pub invariant_of-self-in-Start : goal.invariant_of-self-in-Start

@@ -1,5 +1,5 @@
 use Rattle.std.proofs.Common.{◌≡◌, ◌∙◌, ◌++◌, true, None, refl, sym, ap, subst}
-use Rattle.engine.specs.View.{EngineView}
+use Rattle.engine.specs.View.{EngineView, over_part, seen_part}
 use Rattle.engine.specs.Engine.{Kept, Lost, OnRefusal, StandsSome}
 use Rattle.doc_reader.specs.Standing.{waiting}
 use Rattle.engine.specs.Going.{Breaks, FedAll}
@@ -12,7 +12,7 @@ use Rattle.engine.proofs.engine.Engine.end_input.Goals as goal
 
 pub go_on-requires-clause-parts : goal.go_on-requires-clause-parts
 go_on-requires-clause-parts g c =
-    let old : EngineView g.row.C.Denot = record { plan = c.self.inside.plan.now; ahead = c.self.inside.ahead; tracing = c.self.inside.tracing; reader = c.self.inside.reader; actors = c.self.inside.actors; out = c.self.inside.out.items; trace = c.self.inside.trace.items; bytes = c.self.inside.bytes; refused = c.self.inside.refused; ended = c.self.inside.ended } in
+    let old : EngineView g.row.C.Denot = over_part (seen_part c.self.inside.part) c.self.inside.reader c.self.inside.bytes c.self.inside.refused c.self.inside.ended in
     let was = c.requires.stands.0 in
     let s = subst (λ (z : EngineView g.row.C.Denot). StandsSome g.C.Conds.stands z was) (sym c.self.view_is) c.requires.stands.1 in
     record {
@@ -25,7 +25,7 @@ go_on-requires-clause-parts g c =
 
 pub returns-clause-ended : goal.returns-clause-ended
 returns-clause-ended g c =
-    let old : EngineView g.row.C.Denot = record { plan = c.self.inside.plan.now; ahead = c.self.inside.ahead; tracing = c.self.inside.tracing; reader = c.self.inside.reader; actors = c.self.inside.actors; out = c.self.inside.out.items; trace = c.self.inside.trace.items; bytes = c.self.inside.bytes; refused = c.self.inside.refused; ended = c.self.inside.ended } in
+    let old : EngineView g.row.C.Denot = over_part (seen_part c.self.inside.part) c.self.inside.reader c.self.inside.bytes c.self.inside.refused c.self.inside.ended in
     subst (λ (z : EngineView g.row.C.Denot). FeedsEnd g.C.Conds.stands (OnRefusal c.go_on.new.self.refused) z c.go_on.new.self) c.self.view_is (λ lim b was s fresh.
     let r = c.finish-ended.new.self in
     let o = c.finish-ended.ensures in
@@ -39,7 +39,7 @@ pub returns-clause-empty : goal.returns-clause-empty
 returns-clause-empty g c = λ fresh.
     let was = c.requires.stands.0 in
     let t = c.requires.stands.1 in
-    let old : EngineView g.row.C.Denot = record { plan = c.self.inside.plan.now; ahead = c.self.inside.ahead; tracing = c.self.inside.tracing; reader = c.self.inside.reader; actors = c.self.inside.actors; out = c.self.inside.out.items; trace = c.self.inside.trace.items; bytes = c.self.inside.bytes; refused = c.self.inside.refused; ended = c.self.inside.ended } in
+    let old : EngineView g.row.C.Denot = over_part (seen_part c.self.inside.part) c.self.inside.reader c.self.inside.bytes c.self.inside.refused c.self.inside.ended in
     let s = subst (λ (z : EngineView g.row.C.Denot). StandsSome g.C.Conds.stands z was) (sym c.self.view_is) t in
     let fresh0 : old.refused ≡ None = ap (λ (z : EngineView g.row.C.Denot). z.refused) c.self.view_is ∙ c.requires.fresh in
     let r = c.finish-ended.new.self in
@@ -60,19 +60,19 @@ returns-clause-empty g c = λ fresh.
 
 pub returns-clause-same : goal.returns-clause-same
 returns-clause-same g c =
-    let old : EngineView g.row.C.Denot = record { plan = c.self.inside.plan.now; ahead = c.self.inside.ahead; tracing = c.self.inside.tracing; reader = c.self.inside.reader; actors = c.self.inside.actors; out = c.self.inside.out.items; trace = c.self.inside.trace.items; bytes = c.self.inside.bytes; refused = c.self.inside.refused; ended = c.self.inside.ended } in
+    let old : EngineView g.row.C.Denot = over_part (seen_part c.self.inside.part) c.self.inside.reader c.self.inside.bytes c.self.inside.refused c.self.inside.ended in
     subst (λ (z : EngineView g.row.C.Denot). SameRun z c.go_on.new.self) c.self.view_is (let h = c.go_on.ensures.same in
     record { plan = h.plan; ahead = h.ahead; tracing = h.tracing; silent = λ s. h.silent (record { untold = s.untold; empty = s.empty }); loans = h.loans })
 
 pub returns-clause-traced : goal.returns-clause-traced
 returns-clause-traced g c =
-    let old : EngineView g.row.C.Denot = record { plan = c.self.inside.plan.now; ahead = c.self.inside.ahead; tracing = c.self.inside.tracing; reader = c.self.inside.reader; actors = c.self.inside.actors; out = c.self.inside.out.items; trace = c.self.inside.trace.items; bytes = c.self.inside.bytes; refused = c.self.inside.refused; ended = c.self.inside.ended } in
+    let old : EngineView g.row.C.Denot = over_part (seen_part c.self.inside.part) c.self.inside.reader c.self.inside.bytes c.self.inside.refused c.self.inside.ended in
     subst (λ (z : EngineView g.row.C.Denot). TellsEnd g.C.Conds.stands (OnRefusal c.go_on.new.self.refused) z c.go_on.new.self) c.self.view_is (λ lim b was s fresh told.
     let r = c.finish-ended.new.self in
     let o = c.finish-ended.ensures in
     let d = c.go_on.new.self in
     let e : EngineView g.row.C.Denot = record old { reader = r; ended = true } in
-    let told' : IsTold e = record { tracing = told.tracing; alone = told.alone } in
+    let told' : IsTold e = told in
     let reads = o.stands lim b was s.given s.parts.reader in
     let parts = parts_ended g.C.Conds.stands lim old b was b true s r reads in
     told_to g.C.Conds.stands lim b was b true old e d s refl refl reads (c.go_on.ensures.goes lim b true s.given parts) (c.go_on.ensures.told told' lim b true s.given parts))

@@ -48,7 +48,7 @@ slices-preserved g c =
       fed = λ lim b s. piece_on g.C.Conds.stands lim b old e d inv.done slice inv.same.plan fresh (inv.fed lim b s) (λ x y. o.fed lim x y fresh);
       traced = λ lim b s told.
           let k : Kept g.C.Conds.stands lim old e b false (b ++ inv.done) false = from_none e.refused (Lost lim old e b false (b ++ inv.done) false) (Kept g.C.Conds.stands lim old e b false (b ++ inv.done) false) fresh (inv.fed lim b s) in
-          let told' : IsTold e = record { tracing = inv.same.tracing ∙ told.tracing; alone = inv.same.ahead ∙ told.alone } in
+          let told' : IsTold e = inv.same.tracing ∙ told in
           trace_goes g.C.Conds.stands lim b old e d inv.done slice inv.same.plan fresh (inv.traced lim b s told) (o.traced lim (b ++ inv.done) k.of fresh told');
       bytes = omega arith;
       same = same_on old e d inv.same o.same;

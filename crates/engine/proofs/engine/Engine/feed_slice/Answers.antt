@@ -1,6 +1,6 @@
 use Rattle.std.proofs.Common.{◌≡◌, ◌∙◌, ◌+◌, ◌++◌, false, length, refl, arith, ap, subst, sym}
 use Rattle.std.proofs.lemmas.List.{length-append}
-use Rattle.engine.specs.View.{EngineView}
+use Rattle.engine.specs.View.{EngineView, over_part, seen_part}
 use Rattle.engine.proofs.Courses.{bytes_small, fault_of_answer, fed_to, parts_read}
 use Rattle.engine.specs.Engine.{IsTold, OnRefusal, StandsSome}
 use Rattle.engine.proofs.TellingCalls.{told_to}
@@ -19,7 +19,7 @@ feed-read-requires g c = ap (λ (z : EngineView g.row.C.Denot). z.reader.finishe
 
 pub go_on-requires-clause-parts : goal.go_on-requires-clause-parts
 go_on-requires-clause-parts g c =
-    let old : EngineView g.row.C.Denot = record { plan = c.self.inside.plan.now; ahead = c.self.inside.ahead; tracing = c.self.inside.tracing; reader = c.self.inside.reader; actors = c.self.inside.actors; out = c.self.inside.out.items; trace = c.self.inside.trace.items; bytes = c.self.inside.bytes; refused = c.self.inside.refused; ended = c.self.inside.ended } in
+    let old : EngineView g.row.C.Denot = over_part (seen_part c.self.inside.part) c.self.inside.reader c.self.inside.bytes c.self.inside.refused c.self.inside.ended in
     let s = subst (λ (z : EngineView g.row.C.Denot). StandsSome g.C.Conds.stands z false) (sym c.self.view_is) c.requires.stands in
     let b = s.read ++ c.args.slice.now in
     record {
@@ -32,7 +32,7 @@ go_on-requires-clause-parts g c =
 
 pub returns-clause-fed : goal.returns-clause-fed
 returns-clause-fed g c =
-    let old : EngineView g.row.C.Denot = record { plan = c.self.inside.plan.now; ahead = c.self.inside.ahead; tracing = c.self.inside.tracing; reader = c.self.inside.reader; actors = c.self.inside.actors; out = c.self.inside.out.items; trace = c.self.inside.trace.items; bytes = c.self.inside.bytes; refused = c.self.inside.refused; ended = c.self.inside.ended } in
+    let old : EngineView g.row.C.Denot = over_part (seen_part c.self.inside.part) c.self.inside.reader c.self.inside.bytes c.self.inside.refused c.self.inside.ended in
     subst (λ (z : EngineView g.row.C.Denot). FeedsPiece g.C.Conds.stands (OnRefusal c.go_on.new.self.refused) z c.go_on.new.self c.args.slice.now) c.self.view_is (λ lim b s fresh.
     let r = c.feed-read.new.self in
     let o = c.feed-read.ensures in
@@ -50,13 +50,13 @@ returns-clause-fed g c =
 
 pub returns-clause-same : goal.returns-clause-same
 returns-clause-same g c =
-    let old : EngineView g.row.C.Denot = record { plan = c.self.inside.plan.now; ahead = c.self.inside.ahead; tracing = c.self.inside.tracing; reader = c.self.inside.reader; actors = c.self.inside.actors; out = c.self.inside.out.items; trace = c.self.inside.trace.items; bytes = c.self.inside.bytes; refused = c.self.inside.refused; ended = c.self.inside.ended } in
+    let old : EngineView g.row.C.Denot = over_part (seen_part c.self.inside.part) c.self.inside.reader c.self.inside.bytes c.self.inside.refused c.self.inside.ended in
     subst (λ (z : EngineView g.row.C.Denot). SameRun z c.go_on.new.self) c.self.view_is (let h = c.go_on.ensures.same in
     record { plan = h.plan; ahead = h.ahead; tracing = h.tracing; silent = λ s. h.silent (record { untold = s.untold; empty = s.empty }); loans = h.loans })
 
 pub returns-clause-traced : goal.returns-clause-traced
 returns-clause-traced g c =
-    let old : EngineView g.row.C.Denot = record { plan = c.self.inside.plan.now; ahead = c.self.inside.ahead; tracing = c.self.inside.tracing; reader = c.self.inside.reader; actors = c.self.inside.actors; out = c.self.inside.out.items; trace = c.self.inside.trace.items; bytes = c.self.inside.bytes; refused = c.self.inside.refused; ended = c.self.inside.ended } in
+    let old : EngineView g.row.C.Denot = over_part (seen_part c.self.inside.part) c.self.inside.reader c.self.inside.bytes c.self.inside.refused c.self.inside.ended in
     subst (λ (z : EngineView g.row.C.Denot). TellsPiece g.C.Conds.stands (OnRefusal c.go_on.new.self.refused) z c.go_on.new.self c.args.slice.now) c.self.view_is (λ lim b s fresh told.
     let r = c.feed-read.new.self in
     let o = c.feed-read.ensures in
@@ -64,7 +64,7 @@ returns-clause-traced g c =
     let w = b ++ c.args.slice.now in
     let n = old.bytes + length c.args.slice.now in
     let e : EngineView g.row.C.Denot = record old { reader = r; bytes = n } in
-    let told' : IsTold e = record { tracing = told.tracing; alone = told.alone } in
+    let told' : IsTold e = told in
     let reads = o.stands lim b s.given s.parts.reader in
     let parts = parts_read g.C.Conds.stands lim old b false w false s r n reads in
     told_to g.C.Conds.stands lim b false w false old e d s refl refl reads (c.go_on.ensures.goes lim w false s.given parts) (c.go_on.ensures.told told' lim w false s.given parts))

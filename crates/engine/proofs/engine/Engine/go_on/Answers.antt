@@ -1,31 +1,32 @@
 use Rattle.std.proofs.Common.{◌≡◌, ◌++◌, ◌∙◌, ℕ, Bool, List, Option, ap, map, subst, sym}
 use Rattle.gcx_model.specs.declared.fault.DocFault.{DocFault}
 use Rattle.std.specs.Prelude.{OnOk, OnErr}
-use Rattle.engine.specs.View.{EngineView}
+use Rattle.engine.specs.View.{EngineView, over_part, seen_part}
 use Rattle.gcx_base.specs.declared.limits.Limits.{Limits}
-use Rattle.doc_reader.specs.Standing.{Token, Keeps, answer_of}
+use Rattle.doc_reader.specs.Standing.{Token, KeepsAnswer, answer_of}
 use Rattle.gcx_model.specs.PlanView.{plan_tree}
 use Rattle.gcx_model.specs.Seen.{seen_tree}
 use Rattle.gcx_model.specs.Demand.{text_of_lines}
 use Rattle.doc_reader.specs.Standing.{said_of, waiting}
 use Rattle.engine.specs.Engine.{IsTold, OnRefusal, PartsStand}
-use Rattle.engine.specs.Telling.{GrewPart, ToldSome, more_lines}
-use Rattle.engine.proofs.TellingGroups.{all_told, go_told}
+use Rattle.run_part.specs.Telling.{GrewPart}
+use Rattle.engine.proofs.TellingOn.{all_told, go_told}
 use Rattle.engine.specs.Going.{Breaks, FeedsOn, lacking, SomeParts}
-use Rattle.engine.proofs.Waiting.{err_map, goes_by, ok_map, parts_refused, refusal_is}
-use Rattle.engine.specs.Calls.{FeedsAllFrom, SameRun, TellsWaiting}
+use Rattle.run_part.proofs.Results.{err_map, ok_map}
+use Rattle.engine.proofs.Waiting.{goes_by, parts_refused, refusal_is}
+use Rattle.engine.specs.Calls.{FeedsAllFrom, SameRun, TellsWaiting, ToldSome, more_lines}
 use Rattle.engine.proofs.engine.Engine.go_on.Goals as goal
 
 pub feed_waiting-fed-requires : goal.feed_waiting-fed-requires
 feed_waiting-fed-requires g c =
-    let old : EngineView g.row.C.Denot = record { plan = c.self.inside.plan.now; ahead = c.self.inside.ahead; tracing = c.self.inside.tracing; reader = c.self.inside.reader; actors = c.self.inside.actors; out = c.self.inside.out.items; trace = c.self.inside.trace.items; bytes = c.self.inside.bytes; refused = c.self.inside.refused; ended = c.self.inside.ended } in
+    let old : EngineView g.row.C.Denot = over_part (seen_part c.self.inside.part) c.self.inside.reader c.self.inside.bytes c.self.inside.refused c.self.inside.ended in
     let q = subst (λ (z : EngineView g.row.C.Denot). SomeParts g.C.Conds.stands z) (sym c.self.view_is) c.requires.parts in
     record { limits = q.limits; read = q.read; ended = q.ended; given = q.given; of = parts_refused g.C.Conds.stands q.limits q.read q.ended q.given old c.refusal-self-inside.result q.of }
 
 pub returns-clause-goes : goal.returns-clause-goes
 returns-clause-goes g c =
-    let old : EngineView g.row.C.Denot = record { plan = c.self.inside.plan.now; ahead = c.self.inside.ahead; tracing = c.self.inside.tracing; reader = c.self.inside.reader; actors = c.self.inside.actors; out = c.self.inside.out.items; trace = c.self.inside.trace.items; bytes = c.self.inside.bytes; refused = c.self.inside.refused; ended = c.self.inside.ended } in
-    let n : EngineView g.row.C.Denot = record { plan = c.self-2.inside.plan.now; ahead = c.self-2.inside.ahead; tracing = c.self-2.inside.tracing; reader = c.self-2.inside.reader; actors = c.self-2.inside.actors; out = c.self-2.inside.out.items; trace = c.self-2.inside.trace.items; bytes = c.self-2.inside.bytes; refused = c.self-2.inside.refused; ended = c.self-2.inside.ended } in
+    let old : EngineView g.row.C.Denot = over_part (seen_part c.self.inside.part) c.self.inside.reader c.self.inside.bytes c.self.inside.refused c.self.inside.ended in
+    let n : EngineView g.row.C.Denot = over_part (seen_part c.self-2.inside.part) c.self-2.inside.reader c.self-2.inside.bytes c.self-2.inside.refused c.self-2.inside.ended in
     let d : EngineView g.row.C.Denot = record n { refused = c.lacking-self-inside.result } in
     subst (λ (z : EngineView g.row.C.Denot). FeedsAllFrom g.C.Conds.stands z d) c.self.view_is (λ lim b ended given p.
     let o = c.refusal-self-inside.result in
@@ -46,8 +47,8 @@ returns-clause-goes g c =
 
 pub returns-clause-same : goal.returns-clause-same
 returns-clause-same g c =
-    let old : EngineView g.row.C.Denot = record { plan = c.self.inside.plan.now; ahead = c.self.inside.ahead; tracing = c.self.inside.tracing; reader = c.self.inside.reader; actors = c.self.inside.actors; out = c.self.inside.out.items; trace = c.self.inside.trace.items; bytes = c.self.inside.bytes; refused = c.self.inside.refused; ended = c.self.inside.ended } in
-    let n : EngineView g.row.C.Denot = record { plan = c.self-2.inside.plan.now; ahead = c.self-2.inside.ahead; tracing = c.self-2.inside.tracing; reader = c.self-2.inside.reader; actors = c.self-2.inside.actors; out = c.self-2.inside.out.items; trace = c.self-2.inside.trace.items; bytes = c.self-2.inside.bytes; refused = c.self-2.inside.refused; ended = c.self-2.inside.ended } in
+    let old : EngineView g.row.C.Denot = over_part (seen_part c.self.inside.part) c.self.inside.reader c.self.inside.bytes c.self.inside.refused c.self.inside.ended in
+    let n : EngineView g.row.C.Denot = over_part (seen_part c.self-2.inside.part) c.self-2.inside.reader c.self-2.inside.bytes c.self-2.inside.refused c.self-2.inside.ended in
     let d : EngineView g.row.C.Denot = record n { refused = c.lacking-self-inside.result } in
     let e = c.feed_waiting-fed.new.self in
     let h = c.feed_waiting-fed.ensures.same in
@@ -63,11 +64,11 @@ returns-clause-same g c =
 
 pub returns-clause-keeps : goal.returns-clause-keeps
 returns-clause-keeps g c =
-    let old : EngineView g.row.C.Denot = record { plan = c.self.inside.plan.now; ahead = c.self.inside.ahead; tracing = c.self.inside.tracing; reader = c.self.inside.reader; actors = c.self.inside.actors; out = c.self.inside.out.items; trace = c.self.inside.trace.items; bytes = c.self.inside.bytes; refused = c.self.inside.refused; ended = c.self.inside.ended } in
-    let n : EngineView g.row.C.Denot = record { plan = c.self-2.inside.plan.now; ahead = c.self-2.inside.ahead; tracing = c.self-2.inside.tracing; reader = c.self-2.inside.reader; actors = c.self-2.inside.actors; out = c.self-2.inside.out.items; trace = c.self-2.inside.trace.items; bytes = c.self-2.inside.bytes; refused = c.self-2.inside.refused; ended = c.self-2.inside.ended } in
+    let old : EngineView g.row.C.Denot = over_part (seen_part c.self.inside.part) c.self.inside.reader c.self.inside.bytes c.self.inside.refused c.self.inside.ended in
+    let n : EngineView g.row.C.Denot = over_part (seen_part c.self-2.inside.part) c.self-2.inside.reader c.self-2.inside.bytes c.self-2.inside.refused c.self-2.inside.ended in
     let d : EngineView g.row.C.Denot = record n { refused = c.lacking-self-inside.result } in
-    let h = subst (λ (z : EngineView g.row.C.Denot). Keeps old.reader z.reader) (sym c.self-2.view_is) c.feed_waiting-fed.ensures.same.keeps in
-    subst (λ (z : EngineView g.row.C.Denot). Keeps z.reader n.reader) c.self.view_is h
+    let h = subst (λ (z : EngineView g.row.C.Denot). KeepsAnswer old.reader z.reader) (sym c.self-2.view_is) c.feed_waiting-fed.ensures.same.keeps in
+    subst (λ (z : EngineView g.row.C.Denot). KeepsAnswer z.reader n.reader) c.self.view_is h
 
 pub returns-clause-bytes : goal.returns-clause-bytes
 returns-clause-bytes g c = ap (λ (z : EngineView g.row.C.Denot). z.bytes) c.self-2.view_is ∙ ap (λ (z : EngineView g.row.C.Denot). z.bytes) c.feed_waiting-fed.ensures.same.rest ∙ ap (λ (z : EngineView g.row.C.Denot). z.bytes) c.self.view_is
@@ -77,8 +78,8 @@ returns-clause-closing g c = ap (λ (z : EngineView g.row.C.Denot). z.ended) c.s
 
 pub returns-clause-told : goal.returns-clause-told
 returns-clause-told g c =
-    let old : EngineView g.row.C.Denot = record { plan = c.self.inside.plan.now; ahead = c.self.inside.ahead; tracing = c.self.inside.tracing; reader = c.self.inside.reader; actors = c.self.inside.actors; out = c.self.inside.out.items; trace = c.self.inside.trace.items; bytes = c.self.inside.bytes; refused = c.self.inside.refused; ended = c.self.inside.ended } in
-    let n : EngineView g.row.C.Denot = record { plan = c.self-2.inside.plan.now; ahead = c.self-2.inside.ahead; tracing = c.self-2.inside.tracing; reader = c.self-2.inside.reader; actors = c.self-2.inside.actors; out = c.self-2.inside.out.items; trace = c.self-2.inside.trace.items; bytes = c.self-2.inside.bytes; refused = c.self-2.inside.refused; ended = c.self-2.inside.ended } in
+    let old : EngineView g.row.C.Denot = over_part (seen_part c.self.inside.part) c.self.inside.reader c.self.inside.bytes c.self.inside.refused c.self.inside.ended in
+    let n : EngineView g.row.C.Denot = over_part (seen_part c.self-2.inside.part) c.self-2.inside.reader c.self-2.inside.bytes c.self-2.inside.refused c.self-2.inside.ended in
     let d : EngineView g.row.C.Denot = record n { refused = c.lacking-self-inside.result } in
     subst (λ (z : EngineView g.row.C.Denot). TellsWaiting g.C.Conds.stands (OnRefusal d.refused) z d) c.self.view_is (λ s lim b ended given p.
     let o = c.refusal-self-inside.result in
@@ -91,7 +92,7 @@ returns-clause-told g c =
     let after = e.trace in
     let text = text_of_lines (more_lines pl P (waiting old.reader)) in
     let p' = parts_refused g.C.Conds.stands lim b ended given old o p in
-    let s' : IsTold (record old { refused = o }) = record { tracing = s.tracing; alone = s.alone } in
+    let s' : IsTold (record old { refused = o }) = s in
     let told : OnOk fed (ToldSome pl P (waiting old.reader) (waiting e.reader) before after)
     = ok_map fed (λ (h : IsTold (record old { refused = o }) → (lim : Limits) (b : List ℕ) (ended : Bool) (given : List Token) → PartsStand g.C.Conds.stands lim (record old { refused = o }) b ended given
     → ToldSome (plan_tree old.plan) (seen_tree (map said_of given)) (waiting old.reader) (waiting e.reader) before after). h s' lim b ended given p') w.told in

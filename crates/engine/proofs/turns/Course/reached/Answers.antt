@@ -1,5 +1,5 @@
 use Rattle.std.proofs.Common.{ap, refl}
-use Rattle.engine.specs.declared.actors.Tallied.{Tallied}
+use Rattle.run_part.specs.declared.actors.Tallied.{Tallied}
 use Rattle.engine.specs.declared.turns.Reached.{Reached}
 use Rattle.engine.proofs.TurnsTaken.{tells}
 use Rattle.engine.proofs.turns.Course.reached.Goals as goal

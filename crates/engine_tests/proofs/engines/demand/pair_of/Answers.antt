@@ -1,7 +1,7 @@
 use Rattle.std.proofs.Common.{[]}
 use Rattle.gcx_model.specs.Past.{opening_past}
 use Rattle.gcx_model.specs.PlanView.{plan_tree}
-use Rattle.engine.proofs.Making.{actors_begin}
+use Rattle.run_part.proofs.Making.{actors_begin}
 use Rattle.engine_tests.proofs.Demand.{Always}
 use Rattle.engine_tests.proofs.engines.demand.pair_of.Goals as goal
 

@@ -1,5 +1,5 @@
 use Rattle.std.proofs.Common.{rules}
-use Rattle.many_run.specs.Many.{IsOfCore}
+use Rattle.run_part.specs.Part.{IsOfCore}
 use Rattle.engine_tests.proofs.Manies.{each_two}
 use Rattle.engine_tests.proofs.engines.manies.both_plans.Goals as goal
 

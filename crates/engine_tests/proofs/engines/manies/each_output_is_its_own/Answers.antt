@@ -1,7 +1,7 @@
 use Rattle.std.proofs.Common.{◌∙◌, List, length, sym, ap, subst}
 use Rattle.gcx_model.specs.declared.plan.Plan.{Plan}
 use Rattle.many_run.specs.Each.{OfEach}
-use Rattle.many_run.specs.Many.{IsOfCore}
+use Rattle.run_part.specs.Part.{IsOfCore}
 use Rattle.many_run.specs.View.{ManyView}
 use Rattle.engine_tests.proofs.Manies.{stand_cleared}
 use Rattle.engine_tests.proofs.engines.manies.each_output_is_its_own.Goals as goal

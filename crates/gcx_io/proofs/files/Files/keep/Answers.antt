@@ -1,6 +1,6 @@
 use Rattle.std.proofs.Common.{◌≡◌, ◌<◌, ℕ, List, length, sym, ◌∙◌, ap, subst}
 use Rattle.gcx_io.specs.Held.{OpenHandle, name_at}
-use Rattle.gcx_io.specs.Files.{OpenFiles, Keeps}
+use Rattle.gcx_io.specs.Files.{OpenFiles, KeepsInFile}
 use Rattle.gcx_io.proofs.Handles.{name_is}
 use Rattle.gcx_io.proofs.files.Files.keep.Goals as goal
 
@@ -11,4 +11,4 @@ returns-then-self-clause-keeps c = λ whole.
     let named : name_at c.self.inside.openings.items c.args.handle.0 ≡ c.name.result.now =
     name_is c.self.inside.openings.items c.args.handle.0 c.index-opening.result.now given c.index-opening.ensures ∙ sym c.name.ensures in
     rw (← c.self.view_is)
-    (subst (λ (n : List ℕ). Keeps c.append-self-inside.result c.self.inside.entries.items c.append-self-inside.new.entries.items n c.args.piece.now) (sym named) c.append-self-inside.ensures)
+    (subst (λ (n : List ℕ). KeepsInFile c.append-self-inside.result c.self.inside.entries.items c.append-self-inside.new.entries.items n c.args.piece.now) (sym named) c.append-self-inside.ensures)

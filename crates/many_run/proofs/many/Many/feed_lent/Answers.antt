@@ -1,9 +1,9 @@
 use Rattle.std.proofs.Common.{◌∙◌, length, ap, sym, subst, arith}
-use Rattle.doc_reader.specs.Standing.{Keeps, behind_lent, lent_next}
+use Rattle.doc_reader.specs.Standing.{KeepsAnswer, behind_lent, lent_next}
 use Rattle.doc_reader.proofs.Behind.{lent_many}
 use Rattle.engine.specs.Calls.{TakesLent}
-use Rattle.engine.specs.Late.{said_lent}
-use Rattle.engine.proofs.Acting.{on_err}
+use Rattle.run_part.specs.Late.{said_lent}
+use Rattle.run_part.proofs.Acting.{on_err}
 use Rattle.engine.proofs.Forms.{keeps_none}
 use Rattle.engine.proofs.Lending.{keeps_behind}
 use Rattle.many_run.specs.Parts.{BreaksEach, FedSome, OfGiven, SomeTokensGiven}
@@ -31,7 +31,7 @@ returns-in_err-feed_parts-clause-breaks g c =
     lent_breaks g.C.Conds.stands lim b ended given old h us c.lent.ensures.tokens_are c.feed_parts.new.parts.items takes))
 
 pub returns-in_err-feed_parts-clause-keeps : goal.returns-in_err-feed_parts-clause-keeps
-returns-in_err-feed_parts-clause-keeps g c = subst (λ (z : ManyView g.row.C.Denot). Keeps z.reader c.self.inside.reader) c.self.view_is (keeps_none c.self.inside.reader)
+returns-in_err-feed_parts-clause-keeps g c = subst (λ (z : ManyView g.row.C.Denot). KeepsAnswer z.reader c.self.inside.reader) c.self.view_is (keeps_none c.self.inside.reader)
 
 pub take_lent-requires : goal.take_lent-requires
 take_lent-requires g c =
@@ -59,4 +59,4 @@ returns-clause-takes g c =
 pub returns-clause-keeps : goal.returns-clause-keeps
 returns-clause-keeps g c =
     let r = c.self.inside.reader in
-    subst (λ (z : ManyView g.row.C.Denot). Keeps z.reader c.take_lent.new.self) c.self.view_is (keeps_behind r c.take_lent.new.self (length c.lent.result.0.now) c.take_lent.ensures.takes)
+    subst (λ (z : ManyView g.row.C.Denot). KeepsAnswer z.reader c.take_lent.new.self) c.self.view_is (keeps_behind r c.take_lent.new.self (length c.lent.result.0.now) c.take_lent.ensures.takes)

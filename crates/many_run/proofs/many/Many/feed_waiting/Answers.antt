@@ -2,8 +2,8 @@ use Rattle.std.proofs.Common.{◌≡◌, ◌∙◌, ◌++◌, [], length, ap, ar
 use Rattle.doc_reader.specs.Standing.{ReaderView, lent_next, waiting}
 use Rattle.doc_reader.proofs.Behind.{behind_all, behind_last}
 use Rattle.engine.specs.Calls.{TakesLent}
-use Rattle.engine.proofs.Acting.{on_err}
-use Rattle.engine.proofs.Waiting.{err_map, ok_map}
+use Rattle.run_part.proofs.Acting.{on_err}
+use Rattle.run_part.proofs.Results.{err_map, ok_map}
 use Rattle.many_run.specs.Parts.{BreaksEach, FedSome, OfGiven}
 use Rattle.many_run.specs.View.{ManyView}
 use Rattle.many_run.proofs.Going.{breaks_on, fed_on}

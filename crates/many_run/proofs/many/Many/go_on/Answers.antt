@@ -1,8 +1,9 @@
 use Rattle.std.proofs.Common.{◌≡◌, ◌∙◌, Option, sym, ap, subst}
 use Rattle.gcx_model.specs.declared.fault.DocFault.{DocFault}
-use Rattle.doc_reader.specs.Standing.{Keeps}
+use Rattle.doc_reader.specs.Standing.{KeepsAnswer}
 use Rattle.engine.specs.Going.{lacking}
-use Rattle.engine.proofs.Waiting.{err_map, ok_map, refusal_is}
+use Rattle.run_part.proofs.Results.{err_map, ok_map}
+use Rattle.engine.proofs.Waiting.{refusal_is}
 use Rattle.many_run.specs.Parts.{BreaksEach, FedBy, FedSome, OfGiven}
 use Rattle.many_run.specs.View.{ManyView}
 use Rattle.many_run.proofs.Going.{goes_by}
@@ -25,7 +26,7 @@ returns-clause-goes g c =
     (goes_by g.C.Conds.stands lim b ended given c.args.self.now e o fed is feeds c.feed_waiting-fed.ensures.none breaks)
 
 pub returns-clause-keeps : goal.returns-clause-keeps
-returns-clause-keeps g c = subst (λ (z : ManyView g.row.C.Denot). Keeps c.args.self.now.reader z.reader) (sym c.self.view_is) c.feed_waiting-fed.ensures.keeps
+returns-clause-keeps g c = subst (λ (z : ManyView g.row.C.Denot). KeepsAnswer c.args.self.now.reader z.reader) (sym c.self.view_is) c.feed_waiting-fed.ensures.keeps
 
 pub returns-clause-bytes : goal.returns-clause-bytes
 returns-clause-bytes g c = ap (λ (z : ManyView g.row.C.Denot). z.bytes) c.self.view_is ∙ ap (λ (z : ManyView g.row.C.Denot). z.bytes) c.feed_waiting-fed.ensures.rest

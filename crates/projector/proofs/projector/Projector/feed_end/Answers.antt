@@ -12,7 +12,7 @@ use Rattle.buf_tree.specs.Stands.{StandsFor, past_told}
 use Rattle.buf_tree.proofs.Feeding.{top_is}
 use Rattle.buf_tree.proofs.KeptReading.{link_told, num_told, seen_stand_apart}
 use Rattle.matcher.specs.View.{MatcherView}
-use Rattle.projector.specs.declared.projector.Fed.TheVariants.{Closed}
+use Rattle.projector.specs.declared.projector.Fed.TheVariants as outcomes
 use Rattle.projector.specs.View.{ProjectorView}
 use Rattle.projector.specs.Projector.{KeepsPlace, Places}
 use Rattle.projector.specs.Calls.{Feeds}
@@ -54,7 +54,7 @@ pub returns-clause-feeds : goal.returns-clause-feeds
 returns-clause-feeds g c =
     let m = c.requires.may in
     let i = c.innermost-here.ensures.innermost in
-    subst (λ (z : MatcherView). Feeds (HasHeard z) (record { matcher = c.go_up.new.matcher; at = c.go_up.new.at; passed = c.self.inside.passed.items }) c.args.buffer.now c.close_node.new.self End (Closed c.serial-serial.result))
+    subst (λ (z : MatcherView). Feeds (HasHeard z) (record { matcher = c.go_up.new.matcher; at = c.go_up.new.at; passed = c.self.inside.passed.items }) c.args.buffer.now c.close_node.new.self End (outcomes.Closed c.serial-serial.result))
     (ap (λ (p : ProjectorView). p.matcher) c.self.view_is)
     (record {
       stands = λ past h heard may. (

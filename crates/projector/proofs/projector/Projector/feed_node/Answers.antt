@@ -1,7 +1,7 @@
 use Rattle.std.proofs.Common.{sym, ◌∙◌, ap, subst}
 use Rattle.gcx_model.specs.Past.{token_for}
 use Rattle.buf_tree.proofs.KeptReading.{seen_stand_apart}
-use Rattle.projector.specs.declared.projector.Fed.TheVariants.{Opened}
+use Rattle.projector.specs.declared.projector.Fed.TheVariants as outcomes
 use Rattle.projector.specs.View.{ProjectorView}
 use Rattle.projector.specs.Projector.{MayBeFed, Places}
 use Rattle.projector.specs.Calls.{Feeds}
@@ -31,7 +31,7 @@ open_below-requires-clause-may g c = subst (λ (p : ProjectorView). MayBeFed (Ha
 
 pub returns-clause-feeds : goal.returns-clause-feeds
 returns-clause-feeds g c =
-    subst (λ (p : ProjectorView). Feeds (HasHeard p.matcher) (record { matcher = c.go_to.new.matcher; at = c.go_to.new.at; passed = c.self.inside.passed.items }) c.args.buffer.now c.open_below.new.buffer (token_for c.args.kind) (Opened (record { 0 = c.nodes.result }) c.in_ok-place.given))
+    subst (λ (p : ProjectorView). Feeds (HasHeard p.matcher) (record { matcher = c.go_to.new.matcher; at = c.go_to.new.at; passed = c.self.inside.passed.items }) c.args.buffer.now c.open_below.new.buffer (token_for c.args.kind) (outcomes.Opened (record { 0 = c.nodes.result }) c.in_ok-place.given))
     c.self.view_is
     (node_feeds (record { matcher = c.self.inside.matcher; at = c.self.inside.at; passed = c.self.inside.passed.items }) (record { matcher = c.go_to.new.matcher; at = c.go_to.new.at; passed = c.self.inside.passed.items }) c.open_below.new.matcher c.args.buffer.now c.open_below.new.buffer c.innermost.result.place.0
     c.innermost.ensures.innermost c.args.kind c.requires.kind c.in_ok-place.place c.in_ok-place.given c.in_ok-place.ensures.opens c.requires.may.past c.requires.may.stands c.requires.depth (subst (λ (p : ProjectorView). Places p c.args.buffer.now) (sym c.self.view_is) c.requires.place)

@@ -5,7 +5,7 @@ use Rattle.matcher.specs.Calls.{GivesCount, StandsBehind}
 use Rattle.matcher.specs.View.{MatcherView}
 use Rattle.buf_tree.specs.View.{View}
 use Rattle.buf_tree.proofs.KeptReading.{seen_stand_apart}
-use Rattle.projector.specs.declared.projector.Fed.TheVariants.{Opened}
+use Rattle.projector.specs.declared.projector.Fed.TheVariants as outcomes
 use Rattle.projector.specs.declared.projector.Tally.TheVariants as tallies
 use Rattle.projector.specs.Late.{MakesSome, passed_in}
 use Rattle.projector.specs.Projector.{KeepsPlace}
@@ -87,7 +87,7 @@ returns-clause-opens g c before came =
       makes = c.in_ok-make_all.ensures.makes;
       place = kept;
       feeds = record {
-        fed = Opened (record { 0 = between.nodes }) o.given;
+        fed = outcomes.Opened (record { 0 = between.nodes }) o.given;
         feeds = node_feeds (record { matcher = before; at = c.self.inside.at; passed = [] }) (record { matcher = c.go_to.new.matcher; at = c.go_to.new.at; passed = c.self.inside.passed.items }) n between c.clear_waiting.new.buffer c.innermost.result.place.0
             c.innermost.ensures.innermost c.args.kind c.requires.kind c.in_ok-place.place o.given
             (opens_below before n between c.args.kind c.requires.kind o.given o.ahead enters (entered_gives before n c.args.kind c.requires.kind o.given enters o.here) o.taken (made_shallow (passed_in c.args.bytes.now c.args.self.now.passed) c.args.buffer.now c.make_all.new.buffer c.in_ok-make_all.ensures.makes.rows c.requires.depth) c.open_entered.new.buffer c.clear_waiting.new.buffer c.innermost.result.place.0 c.in_ok-place.place

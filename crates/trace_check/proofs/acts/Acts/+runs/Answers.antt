@@ -1,7 +1,7 @@
 use Rattle.std.proofs.Common.{◌≡◌, ◌<◌, ℕ, Bool, cond, List, [], ◌∷◌, ◌++◌, All, Bor, length, map, max, slice_index_or, vec_len, refl, rules, sym, ◌∙◌, ap, subst, arith}
 use Rattle.gcx_model.proofs.Folds.{fold_For, fold_If}
 use Rattle.gcx_model.specs.CondView.{core_cond_tree}
-use Rattle.gcx_model.specs.Core.{ItemTree, For, Off}
+use Rattle.gcx_model.specs.Core.{ItemTree, For, SignOff}
 use Rattle.gcx_model.specs.ItemView.{body_of, body_tree, item_tree, off_tree}
 use Rattle.gcx_model.specs.Run.{Offed}
 use Rattle.gcx_model.specs.Tree.{serial_of}
@@ -109,7 +109,7 @@ run_item-returns-in_ok-sign_off-in-Off-clause-acts t c =
     let clock = clock_in c.args.timed.now in
     let bs = c.args.walk.now.scope.items in
     let off = c.in-Off.off in
-    let tree : item_tree c.args.item.now ≡ Off (off_tree off) = grind (arith, the_lemmas) in
+    let tree : item_tree c.args.item.now ≡ SignOff (off_tree off) = grind (arith, the_lemmas) in
     let node = c.node_of.ensures ∙ (ap (bound_in 0 off.base.0) c.deref-in-Off.ensures.value ∙ sym (bound_number C bs c.requires.bound off.base.0)) in
     adds_same c.args.self.now.acts.items c.sign_off.new.self.acts.items _ _ c.args.now
     (ap (λ (n : ℕ). one_act c.args.now (Offed (off_tree off) n)) node ∙ ap (λ (i : ItemTree). item_course clock C i (env_of C bs) c.args.now) (sym tree)) c.in_ok-sign_off-in-Off.ensures

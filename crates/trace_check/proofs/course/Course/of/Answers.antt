@@ -1,6 +1,6 @@
 use Rattle.std.proofs.Common.{List, map, ◌∙◌, ap}
 use Rattle.gcx_model.specs.PlanView.{plan_tree}
-use Rattle.gcx_model.specs.Tree.{Token}
+use Rattle.gcx_model.specs.Tree.{TreeToken}
 use Rattle.doc_reader.specs.Standing.{said_of}
 use Rattle.trace_check.specs.Acting.{what_shown}
 use Rattle.trace_check.proofs.Assembled.{is_course, timed_grown, timed_some}
@@ -8,12 +8,12 @@ use Rattle.trace_check.proofs.course.Course.of.Goals as goal
 
 pub acts_of-requires : goal.acts_of-requires
 acts_of-requires c =
-    let ts : List Token = map said_of c.args.tokens.items in
+    let ts : List TreeToken = map said_of c.args.tokens.items in
     record { grown = timed_grown ts c.in_ok-timed.timed c.in_ok-timed.ensures; some = timed_some ts c.in_ok-timed.timed c.in_ok-timed.ensures }
 
 pub given_of-requires : goal.given_of-requires
 given_of-requires c =
-    let ts : List Token = map said_of c.args.tokens.items in
+    let ts : List TreeToken = map said_of c.args.tokens.items in
     record { grown = timed_grown ts c.in_ok-timed.timed c.in_ok-timed.ensures; some = timed_some ts c.in_ok-timed.timed c.in_ok-timed.ensures }
 
 pub of-requires-2-clause-grown : goal.of-requires-2-clause-grown

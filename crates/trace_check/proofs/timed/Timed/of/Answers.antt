@@ -1,12 +1,12 @@
 use Rattle.std.proofs.Common.{List, [], map, arith}
-use Rattle.gcx_model.specs.Tree.{Token}
+use Rattle.gcx_model.specs.Tree.{TreeToken}
 use Rattle.doc_reader.specs.Standing.{said_of}
 use Rattle.trace_check.specs.Timing.{HasTaken}
 use Rattle.trace_check.proofs.timed.Timed.of.Goals as goal
 
 pub returns : goal.returns
 returns c =
-    let ts : List Token = map said_of c.args.tokens.items in
+    let ts : List TreeToken = map said_of c.args.tokens.items in
     let taken : HasTaken ts c.take_all.new.self = c.in_ok-take_all.ensures.taken [] c.in_ok-timed.ensures.taken in
     record {
       closed = c.in_ok-close.ensures.closed ts record {

@@ -1,6 +1,6 @@
 use Rattle.std.proofs.Common.{◌≡◌, ◌+◌, suc, length, Some, inl, inr, ap, ◌∙◌, arith}
 use Rattle.std.proofs.lemmas.Result.{on_ok_weaker}
-use Rattle.gcx_model.specs.Tree.{Node, serial_of, Token, End, grow}
+use Rattle.gcx_model.specs.Tree.{Node, serial_of, TreeToken, End, grow}
 use Rattle.doc_reader.specs.Standing.{said_of}
 use Rattle.doc_tree.specs.Rows.{node_at}
 use Rattle.trace_check.specs.declared.timed.Timed.{Timed}
@@ -11,7 +11,7 @@ use Rattle.trace_check.proofs.timed.Timed.take.Goals.{in-Start+in_ok-push-in-Sta
 pub returns-clause-taken : goal.returns-clause-taken
 returns-clause-taken c = on_ok_weaker c.take.result (λ tree ts h.
     let old : Timed = c.args.self.now in
-    let t : Token = said_of c.args.token in
+    let t : TreeToken = said_of c.args.token in
     let p : Node = node_at old.tree.nodes c.in-Some.at in
     let at : old.tree.at ≡ Some p = c.in-Some.ensures.node in
     let time : c.len-now.result + 1 ≡ suc (length ts) = (let a = c.len-now.ensures in let b = old.fed.ok.0 in let n = h.counted in omega (arith, a, b, n)) in

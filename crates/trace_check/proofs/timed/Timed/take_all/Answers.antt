@@ -1,6 +1,6 @@
 use Rattle.std.proofs.Common.{◌≡◌, true, List, ◌∷◌, map, ◌∙◌, ap, subst}
 use Rattle.gcx_model.specs.Growth.{may_all}
-use Rattle.gcx_model.specs.Tree.{Token}
+use Rattle.gcx_model.specs.Tree.{TreeToken}
 use Rattle.doc_reader.specs.Standing.{said_of}
 use Rattle.trace_check.proofs.TakenAll.{HasTakenSome, come_on, open_for, some_none, some_on}
 use Rattle.trace_check.proofs.timed.Timed.take_all.Goals as goal
@@ -15,7 +15,7 @@ take-requires-clause-open c none =
 
 pub tokens-preserved : goal.tokens-preserved
 tokens-preserved c =
-    let rest : List Token = map said_of c.pop_front.new.self.items in
+    let rest : List TreeToken = map said_of c.pop_front.new.self.items in
     let come : may_all (said_of c.in-Some.token ∷ rest) c.tokens.self.tree ≡ true = subst (λ ts. may_all (map said_of ts) c.tokens.self.tree ≡ true) c.in-Some.ensures.items c.tokens.invariant.come in
     let before : HasTakenSome c.args.self.now c.tokens.self (map said_of c.args.tokens.items) (said_of c.in-Some.token ∷ rest) =
     subst (λ ts. HasTakenSome c.args.self.now c.tokens.self (map said_of c.args.tokens.items) (map said_of ts)) c.in-Some.ensures.items c.tokens.invariant.some in

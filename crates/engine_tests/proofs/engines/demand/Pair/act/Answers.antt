@@ -1,5 +1,5 @@
 use Rattle.gcx_model.specs.Tree.{grow_all, opening}
-use Rattle.engine.specs.Actors.{past_at}
+use Rattle.run_part.specs.Actors.{past_at}
 use Rattle.engine_tests.proofs.Demand.{acted_on}
 use Rattle.engine_tests.proofs.engines.demand.Pair.act.Goals as goal
 

@@ -1,0 +1,3 @@
+pub mod Owing
+mod Spilling
+mod TwoPlaces

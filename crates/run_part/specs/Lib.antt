@@ -1,0 +1,13 @@
+pub mod Actors
+pub mod Counts
+pub mod Flows
+pub mod Fronts
+pub mod FlowLaws
+pub mod Groups
+pub mod Late
+pub mod Order
+pub mod Part
+pub mod Taker
+pub mod TakerLaws
+pub mod Telling
+pub mod View
